@@ -1,0 +1,4 @@
+pub mod Clock
+pub mod Fill
+pub mod Sink
+pub mod Source
