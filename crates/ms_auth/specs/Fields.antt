@@ -1,0 +1,53 @@
+-- The fields of a tail, by their places in a message.
+use Rattle.std.specs.Prelude.{◌≡◌, ℕ, ◌%◌, ◌^◌, Bool, nat_le, List, length, slice_index}
+use Rattle.byte_codec.specs.Numbers.{low_word_at, part_at}
+use Rattle.ms_auth.specs.declared.packet.Tail.{Tail}
+use Rattle.ms_auth.specs.declared.packet.Tail.TheVariants.{Plain, Short68, Ext120}
+
+-- the key identifier, the least significant byte first; all of it is the RID of an extended message
+abbrev pub key_id_of : List ℕ → ℕ
+key_id_of bytes = low_word_at 48 bytes
+
+-- the RID of a short message: the low 31 bits
+abbrev pub short_rid_of : List ℕ → ℕ
+short_rid_of bytes = key_id_of bytes % 2 ^ 31
+
+-- whether a short message asks for the previous key: bit 31
+abbrev pub asks_for_previous : List ℕ → Bool
+asks_for_previous bytes = nat_le (2 ^ 31) (key_id_of bytes)
+
+-- the checksum of a short message
+abbrev pub short_sum_of : List ℕ → List ℕ
+short_sum_of bytes = part_at 52 16 bytes
+
+-- the single bytes of an extended message, and its checksum
+abbrev pub reserved_of : List ℕ → ℕ
+reserved_of bytes = slice_index bytes 52
+
+abbrev pub flags_of : List ℕ → ℕ
+flags_of bytes = slice_index bytes 53
+
+abbrev pub hints_of : List ℕ → ℕ
+hints_of bytes = slice_index bytes 54
+
+abbrev pub hash_of : List ℕ → ℕ
+hash_of bytes = slice_index bytes 55
+
+abbrev pub extended_sum_of : List ℕ → List ℕ
+extended_sum_of bytes = part_at 56 64 bytes
+
+-- an extended tail whose fields are those at their places
+pub record IsExtendedAt (bytes : List ℕ) (rid reserved flags hints hash : ℕ) (sum : List ℕ) : Type 0 where
+  pub size : length bytes ≡ 120
+  pub key_id_is : key_id_of bytes ≡ rid
+  pub reserved_is : reserved_of bytes ≡ reserved
+  pub flags_is : flags_of bytes ≡ flags
+  pub hints_is : hints_of bytes ≡ hints
+  pub hash_is : hash_of bytes ≡ hash
+  pub sum_is : extended_sum_of bytes ≡ sum
+
+-- a tail whose fields are those at their places, behind a header
+abbrev pub IsTailAt : List ℕ → Tail → Type 0
+IsTailAt bytes Plain = length bytes ≡ 48
+IsTailAt bytes (Short68 key_id sum) = (length bytes ≡ 68) × (key_id_of bytes ≡ key_id) × (short_sum_of bytes ≡ sum)
+IsTailAt bytes (Ext120 rid reserved flags hints hash sum) = IsExtendedAt bytes rid reserved flags hints hash sum
