@@ -1,0 +1,23 @@
+//! What a controller of a domain answers to a request for the time.
+//!
+//! [`answer`] takes the accounts, the bytes of a request and the readings of the clock, and gives the signed
+//! reply or the reason why there is none. It takes no memory and asks no device.
+//!
+//! It stands on `ms_auth`, which reads, signs and writes messages, and on `key_book`, which finds the account.
+//! The layer above may rely on `Answers` in `specs/Reply.antt`: `refusal_of` is the first refusal that applies to
+//! the bytes, and where there is none `IsReplyOf` says which bytes are the reply, and no others are.
+//! `specs/Info.antt` has what a controller says of its own clock. Of every answer, `proofs/Uniqueness.antt` shows
+//! that it is the only one, and `proofs/Replies.antt` that bytes behind the 68th refuse a request and that a reply
+//! spells a message of 68 bytes.
+#![tactic(auto)]
+
+mod info;
+mod outcome;
+mod reply;
+
+pub use info::ServerInfo;
+pub use outcome::{Answer, Refusal};
+pub use reply::answer;
+
+#[cfg(test)]
+mod tests;
