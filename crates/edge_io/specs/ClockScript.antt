@@ -1,0 +1,47 @@
+-- What a clock in memory will do.
+use Rattle.std.specs.Prelude.{ℕ, ℤ, if◌then◌else◌, List, [], ◌∷◌, ◌++◌, length, drop, nat_lt, Option, Some, None}
+use Rattle.edge_traits.specs.declared.clock.Move.{Move}
+use Rattle.edge_traits.specs.declared.clock.Reading.{Reading}
+use Rattle.edge_traits.specs.declared.clock.Reading.TheVariants as clock
+use Rattle.edge_traits.specs.Clock.{ClockTold}
+use Rattle.edge_io.specs.Calls.{is_listed, next_count}
+
+-- The readings to come, what the clock tells, and how many moves it can tell. Then the numbers of the calls
+-- that fail, the calls made, and those of them that failed: only readings can fail, so only they are counted.
+pub record ClockScript : Type 0 where
+  pub coming : List ℤ
+  pub told : Option ClockTold
+  pub room : ℕ
+  pub fails : List ℕ
+  pub calls : ℕ
+  pub faults : ℕ
+
+-- the first of the readings to come, and a failure behind the last
+abbrev pub first_reading : List ℤ → Reading
+first_reading [] = clock.Failed
+first_reading (t ∷ later) = clock.At t
+
+-- A reading that is not to fail is the next of those to come.
+abbrev pub now_answer : ClockScript → Reading
+now_answer s = if is_listed s.fails (next_count s.calls) then clock.Failed else first_reading s.coming
+
+-- what is told, where it is told, with one more reading
+abbrev pub with_reading : ℤ → Option ClockTold → Option ClockTold
+with_reading t None = None
+with_reading t (Some told) = Some (record told { readings = told.readings ++ t ∷ [] })
+
+-- what an answer leaves
+abbrev pub clock_after : Reading → ClockScript → ClockScript
+clock_after (clock.At t) s = record s { coming = drop 1 s.coming; told = with_reading t s.told; calls = next_count s.calls }
+clock_after clock.Failed s = record s { calls = next_count s.calls; faults = next_count s.faults }
+
+-- what is told with one more move; where there is no room for it, nothing from then on
+abbrev pub with_move : ℕ → Move → Option ClockTold → Option ClockTold
+with_move room made None = None
+with_move room made (Some told) =
+    if nat_lt (length told.moves) room then Some (record told { moves = told.moves ++ made ∷ [] }) else None
+
+-- the moves that are told
+abbrev pub moves_of : Option ClockTold → List Move
+moves_of None = []
+moves_of (Some told) = told.moves

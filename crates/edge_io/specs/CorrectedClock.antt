@@ -1,0 +1,42 @@
+-- What a clock over the machine's clock gives.
+use Rattle.std.specs.Prelude.{◌≡◌, ◌⊎◌, ℕ, ℤ, pos, ◌+ℤ◌}
+use Rattle.base_specs.specs.Time.{IsReading}
+use Rattle.edge_traits.specs.declared.clock.Reading.{Reading}
+use Rattle.edge_traits.specs.declared.clock.Reading.TheVariants as clock
+use Rattle.edge_io.specs.Calls.{next_count}
+use Rattle.edge_io.specs.Correction.{Correction, ahead_of, looked_at, slewed_by, stepped_by}
+
+-- its corrections, and how many of its readings failed
+pub record CorrectedClock : Type 0 where
+  pub correction : Correction
+  pub faults : ℕ
+
+-- the machine's clock was looked at, and read this
+abbrev pub looking_at : ℕ → CorrectedClock → CorrectedClock
+looking_at machine c = record c { correction = looked_at machine c.correction }
+
+-- one more reading failed
+abbrev pub with_fault : CorrectedClock → CorrectedClock
+with_fault c = record c { faults = next_count c.faults }
+
+-- a step of so many ticks
+abbrev pub with_step : ℤ → CorrectedClock → CorrectedClock
+with_step amount c = record c { correction = stepped_by amount c.correction }
+
+-- a slew of so many ticks
+abbrev pub with_slew : ℤ → CorrectedClock → CorrectedClock
+with_slew amount c = record c { correction = slewed_by amount c.correction }
+
+-- the moment that the clock means where the machine's clock reads this
+abbrev pub moment_at : ℕ → CorrectedClock → ℤ
+moment_at machine c = pos machine +ℤ ahead_of (looking_at machine c).correction
+
+-- A reading is the machine's with the corrections. It fails where the machine's can't be had, and where the sum is no reading.
+abbrev pub ReadsCorrected : Reading → CorrectedClock → CorrectedClock → Type 0
+ReadsCorrected (clock.At t) old new = (machine : ℕ) × (new ≡ looking_at machine old) × (t ≡ moment_at machine old)
+ReadsCorrected clock.Failed old new =
+    (new ≡ with_fault old) ⊎ ((machine : ℕ) × (new ≡ with_fault (looking_at machine old)) × (IsReading (moment_at machine old) → ⊥))
+
+-- A slew begins at what the machine's clock reads; where that can't be had, it begins where it was last looked at.
+abbrev pub BeginsSlew : ℤ → CorrectedClock → CorrectedClock → Type 0
+BeginsSlew amount old new = (new ≡ with_slew amount old) ⊎ ((machine : ℕ) × (new ≡ with_slew amount (looking_at machine old)))

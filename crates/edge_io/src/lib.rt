@@ -1,0 +1,41 @@
+//! The devices behind the traits of `edge_traits`: objects in memory, and the devices of the machine.
+//!
+//! It hands on the traits, their answers and the datagrams of `edge_traits`, so that the layers above name this
+//! crate alone.
+//!
+//! An object in memory (`ScriptSource`, `ScriptSink`, `ScriptClock`) is seen as the record of what it will do:
+//! what it has to give, its room, which of its calls fail, how many were made, and its count of faults. Beside
+//! the clauses of its trait each call says its answer and the next record by these, and leaves nothing open. A
+//! call that fails uses nothing up. The memory of the lists is taken when the object is made.
+//!
+//! An adapter (`ReaderSource`, `WriterSink`, `RealClock`) tells nothing, and says what it makes of what the
+//! reader, the writer or the machine's clock gave. What these give is trusted.
+//!
+//! The definitions stand in `specs/`: `SourceScript`, `SinkScript`, `ClockScript` and `Calls` for the objects,
+//! `Held`, `CorrectedClock` and `Correction` for the adapters. Those of the traits are handed on.
+#![tactic(auto)]
+
+mod calls;
+mod clock;
+mod correction;
+mod reader;
+mod real_clock;
+mod sink;
+mod source;
+#[cfg(test)]
+mod tests;
+mod writer;
+
+pub use clock::ScriptClock;
+pub use edge_traits::{
+    Addr, Clock, DATAGRAM_LEN, Datagram, Filled, Move, Put, Reading, Sink, Source, Take, fill_front,
+};
+pub use reader::ReaderSource;
+pub use real_clock::RealClock;
+pub use sink::ScriptSink;
+pub use source::ScriptSource;
+pub use writer::WriterSink;
+
+/// There was no memory.
+#[derive(Clone, Copy, Debug, PartialEq, Eq)]
+pub struct NoMemory;

@@ -1,0 +1,209 @@
+//! The machine's clock.
+ghost use Rattle.std.specs.Prelude.{◌≡◌, ◌+◌, ◌/◌, ◌<◌, ◌^◌, [], ◌∷◌, pos, IfSome, None};
+ghost use Rattle.std.specs.Duration.{as_nanos};
+ghost use Rattle.edge_io.specs.CorrectedClock.{BeginsSlew, ReadsCorrected, with_step};
+ghost use Rattle.edge_traits.specs.Clock.{MadeMoves, ReadingCounts, Reads};
+
+use crate::correction::Correction;
+use edge_traits::{Clock, Move, Reading};
+use std::marker::Model;
+use std::rt;
+use std::time::{Duration, SystemTime};
+
+/// Ticks from 1 January 1601 to 1 January 1970.
+const TICKS_TO_1970: u128 = 116_444_736_000_000_000;
+
+/// Nanoseconds in a tick.
+const TICK_NANOS: u128 = 100;
+
+/// The machine's clock with its corrections. It tells nothing, and leaves the machine's clock as it is.
+///
+/// A reading is what the machine's clock reads, in ticks of 100 ns since 1 January 1601, plus all steps, plus
+/// what is worked off of the slews: one tick per 2,000 ticks of the machine's clock. A further slew adds to what
+/// is left of the one before. A machine's clock that went backwards works off nothing.
+///
+/// It answers Failed where the machine's clock can't be had (also where it is set before 1970, which the library
+/// doesn't give), and where the sum is no reading: below 0 or above 4,000,000,000,000,000,000.
+#[derive(Drop)]
+pub struct RealClock<R: rt::Clock + Drop> {
+    rt: R,
+    correction: Correction,
+    faults: u64,
+}
+
+impl<R: rt::Clock + Drop> Model for RealClock<R> {
+    ghost use Rattle.edge_io.specs.CorrectedClock.{CorrectedClock};
+
+    ghost Value = { CorrectedClock };
+
+    ghost view = { λ c. record { correction = c.correction; faults = c.faults } };
+}
+
+impl<R: rt::Clock + Drop> RealClock<R> {
+    /// The clock of this runtime, without corrections.
+    pub fn new(rt: R) -> RealClock<R>
+        ensures correction { result ≡ record {
+          correction = record { moved = pos 0; slew = pos 0; passed = 0; seen = None };
+          faults = 0;
+        } }
+        ensures told { ⟦<RealClock<R> as Clock>⟧.told result ≡ None }
+        ensures faults { ⟦<RealClock<R> as Clock>⟧.faults result ≡ 0 }
+    {
+        RealClock {
+            rt,
+            correction: Correction::new(),
+            faults: 0,
+        }
+    }
+}
+
+impl<R: rt::Clock + Drop> Clock for RealClock<R> {
+    ghost use Rattle.std.specs.Prelude.{None};
+
+    ghost told = { λ _. None };
+
+    ghost faults = { λ c. c.faults };
+
+    fn now(&mut self) -> Reading
+        ensures gives { Reads result None None }
+        ensures cause { ReadingCounts result self.old.faults self.new.faults }
+        ensures corrected { ReadsCorrected result self.old self.new }
+    {
+        if let Some(machine) = machine_ticks(&self.rt) {
+            self.correction.look(machine);
+            if let Some(moment) = self.correction.reading(machine) {
+                return Reading::At(moment);
+            }
+        }
+        self.faults = self.faults.saturating_add(1);
+        Reading::Failed
+    }
+
+    fn step(&mut self, amount: i64)
+        ensures moves { MadeMoves None None (Move.Step amount ∷ []) }
+        ensures cause { self.new.faults ≡ self.old.faults }
+        ensures correction { self.new ≡ with_step amount self.old }
+    {
+        self.correction.step(amount);
+    }
+
+    // Where the machine's clock can't be had, the slew begins when it was last looked at.
+    fn slew(&mut self, amount: i64)
+        ensures moves { MadeMoves None None (Move.Slew amount ∷ []) }
+        ensures cause { self.new.faults ≡ self.old.faults }
+        ensures correction { BeginsSlew amount self.old self.new }
+    {
+        if let Some(machine) = machine_ticks(&self.rt) {
+            self.correction.look(machine);
+        }
+        self.correction.slew(amount);
+    }
+}
+
+/// What the machine's clock reads, where it can be had.
+fn machine_ticks<R: rt::Clock>(rt: &R) -> Option<u128>
+    ensures { IfSome result (λ ticks. ticks < 2 ^ 100) }
+{
+    let now = SystemTime::now(rt).ok()?;
+    let since_1970 = now.duration_since(SystemTime::UNIX_EPOCH).ok()?;
+    Some(ticks_of(since_1970))
+}
+
+/// The moment so long after 1 January 1970, in ticks of 100 ns since 1 January 1601.
+fn ticks_of(since_1970: Duration) -> u128
+    ensures value { result ≡ 116_444_736_000_000_000 + as_nanos since_1970 / 100 }
+    ensures within { result < 2 ^ 100 }
+{
+    TICKS_TO_1970 + since_1970.as_nanos() / TICK_NANOS
+}
+
+#[cfg(test)]
+mod tests {
+    use super::*;
+    use std::io;
+
+    /// A machine whose clock is set by hand.
+    #[derive(Drop)]
+    struct Machine {
+        since_1970: Option<Duration>,
+    }
+
+    impl rt::Clock for Machine {
+        fn monotonic(&self) -> io::Result<Duration> {
+            self.since_1970()
+        }
+
+        fn since_1970(&self) -> io::Result<Duration> {
+            self.since_1970
+                .ok_or(io::Error::from(io::ErrorKind::InvalidData))
+        }
+    }
+
+    /// 1 January 1970 in ticks.
+    const EPOCH: i64 = 116_444_736_000_000_000;
+
+    #[test]
+    fn moves_of_a_clock(rt: HostRuntime) {
+        let since_1970 = Some(Duration::ZERO);
+        let mut clock = RealClock::new(Machine { since_1970 });
+        assert_eq!(rt; clock.now(), Reading::At(EPOCH));
+        clock.step(-7);
+        assert_eq!(rt; clock.now(), Reading::At(EPOCH - 7));
+        clock.slew(3);
+        // Microseconds that the machine's clock reads, and the reading.
+        for (micros, reading) in [
+            (0, -7),
+            (199, 1_983),
+            (200, 1_994),
+            (1_000, 9_996),
+            (400, 3_996),
+        ] {
+            clock.rt.since_1970 = Some(Duration::from_micros(micros));
+            assert_eq!(rt; clock.now(), Reading::At(EPOCH + reading), "at {micros}");
+        }
+        clock.rt.since_1970 = None;
+        assert_eq!(rt; clock.now(), Reading::Failed);
+        assert_eq!(rt; clock.faults, 1);
+    }
+
+    #[test]
+    fn readings_at_their_ends(rt: HostRuntime) {
+        let since_1970 = Some(Duration::ZERO);
+        let mut clock = RealClock::new(Machine { since_1970 });
+        clock.step(-EPOCH);
+        assert_eq!(rt; clock.now(), Reading::At(0));
+        clock.step(-1);
+        assert_eq!(rt; clock.now(), Reading::Failed);
+        clock.step(4_000_000_000_000_000_001);
+        assert_eq!(rt; clock.now(), Reading::At(4_000_000_000_000_000_000));
+        clock.step(1);
+        assert_eq!(rt; clock.now(), Reading::Failed);
+        for _ in 0..4 {
+            clock.step(i64::MAX);
+        }
+        for _ in 0..4 {
+            clock.step(-i64::MAX);
+        }
+        clock.step(-1);
+        assert_eq!(rt; clock.now(), Reading::At(4_000_000_000_000_000_000));
+        assert_eq!(rt; clock.faults, 2);
+    }
+
+    #[test]
+    fn the_machines_own_clock(rt: HostRuntime) {
+        let mut clock = RealClock::new(&rt);
+        let Reading::At(first) = clock.now() else {
+            assert!(rt; false, "the clock can't be had");
+            return;
+        };
+        // From 2020 to 2200.
+        assert!(rt; 132_223_104_000_000_000 < first && first < 189_000_000_000_000_000);
+        clock.step(36_000_000_000);
+        let Reading::At(second) = clock.now() else {
+            assert!(rt; false, "the clock can't be had");
+            return;
+        };
+        let hour = second.wrapping_sub(first);
+        assert!(rt; 36_000_000_000 <= hour && hour < 36_600_000_000, "{hour}");
+    }
+}

@@ -1,0 +1,265 @@
+//! The objects in memory as tables, and each adapter once.
+ghost use Rattle.std.specs.Prelude.{◌<◌, All, IfOk};
+ghost use Rattle.base_specs.specs.Time.{IsReading};
+
+use crate::{
+    Clock, Move, Put, ReaderSource, Reading, ScriptClock, ScriptSink, ScriptSource, Sink, Source,
+    Take, WriterSink,
+};
+use std::alloc::{AllocError, Global};
+use std::io::{self, ErrorKind, Read, Write};
+use std::process::Abort;
+use std::test::Fail;
+
+/// The sizes among these that aren't 0.
+fn sizes_of(alloc: Global, numbers: &[usize]) -> Result<Vec<usize>, AllocError>
+    ensures { IfOk result (λ sizes. All (λ size. 0 < size) sizes.items) }
+{
+    numbers
+        .iter()
+        .copied()
+        .filter(|size| *size > 0)
+        .collect(alloc)
+}
+
+/// The numbers among these that are readings.
+fn readings_of(alloc: Global, numbers: &[i64]) -> Result<Vec<i64>, AllocError>
+    ensures { IfOk result (λ readings. All IsReading readings.items) }
+{
+    numbers
+        .iter()
+        .copied()
+        .filter(|number| *number >= 0 && *number <= 4_000_000_000_000_000_000)
+        .collect(alloc)
+}
+
+/// Reads into a buffer of four bytes: the bytes are wanted, "!" for Failed, and "." for the end.
+fn wants_reads<S: Source>(rt: &impl Abort, source: &mut S, wanted: &[&str]) {
+    for want in wanted {
+        let mut buf = [b'-'; 4];
+        match source.read(&mut buf) {
+            Take::Bytes(count) => assert_eq!(rt; &buf[..count], want.as_bytes()),
+            Take::End => assert_eq!(rt; *want, "."),
+            Take::Failed => assert_eq!(rt; *want, "!"),
+        }
+    }
+}
+
+#[test]
+fn sources_give_their_pieces(rt: HostRuntime) -> Result<(), Fail> {
+    let alloc = rt.alloc();
+    let rows: [(&[usize], &[u64], &[&str]); 5] = [
+        (&[], &[], &["abcd", "efgh", ".", "."]),
+        (&[3, 2], &[2], &["abc", "!", "de", "fgh", "."]),
+        (&[6, 1], &[], &["abcd", "ef", "g", "h", "."]),
+        (
+            &[1, 9],
+            &[1, 2, 5],
+            &["!", "!", "a", "bcde", "!", "fgh", "."],
+        ),
+        (&[2, 2, 2, 1], &[6], &["ab", "cd", "ef", "g", "h", "!", "."]),
+    ];
+    for (sizes, fails, wanted) in rows {
+        let bytes = b"abcdefgh".to_vec(alloc)?;
+        let mut source = ScriptSource::new(
+            alloc,
+            bytes,
+            sizes_of(alloc, sizes)?,
+            fails.to_vec(alloc)?,
+            0,
+        )?;
+        wants_reads(&rt, &mut source, wanted);
+    }
+    Ok(())
+}
+
+#[test]
+fn sinks_keep_whole_pieces(rt: HostRuntime) -> Result<(), Fail> {
+    let alloc = rt.alloc();
+    // The room, the failing writes, the pieces with what comes of each, and the bytes at the end.
+    let rows: [(usize, &[u64], &[(&str, Put)], &str); 4] = [
+        (
+            4,
+            &[],
+            &[("ab", Put::Done), ("cd", Put::Done), ("e", Put::Failed)],
+            "abcd",
+        ),
+        (
+            3,
+            &[],
+            &[("ab", Put::Done), ("cd", Put::Failed), ("e", Put::Done)],
+            "abe",
+        ),
+        (
+            9,
+            &[1, 3],
+            &[
+                ("ab", Put::Failed),
+                ("ab", Put::Done),
+                ("c", Put::Failed),
+                ("c", Put::Done),
+            ],
+            "abc",
+        ),
+        (0, &[], &[("a", Put::Failed)], ""),
+    ];
+    for (room, fails, pieces, bytes) in rows {
+        let mut sink = ScriptSink::new(alloc, fails.to_vec(alloc)?, room)?;
+        for (piece, put) in pieces {
+            if !piece.is_empty() {
+                assert_eq!(rt; sink.write(piece.as_bytes()), *put, "at {piece}");
+            }
+        }
+        assert_eq!(rt; sink.bytes(), bytes.as_bytes());
+    }
+    Ok(())
+}
+
+#[test]
+fn clocks_give_their_readings(rt: HostRuntime) -> Result<(), Fail> {
+    let alloc = rt.alloc();
+    let rows: [(&[i64], &[u64], &[Reading]); 3] = [
+        (&[], &[], &[Reading::Failed, Reading::Failed]),
+        (
+            &[5, 7, 5],
+            &[],
+            &[
+                Reading::At(5),
+                Reading::At(7),
+                Reading::At(5),
+                Reading::Failed,
+            ],
+        ),
+        (
+            &[5, 7],
+            &[1, 3],
+            &[
+                Reading::Failed,
+                Reading::At(5),
+                Reading::Failed,
+                Reading::At(7),
+                Reading::Failed,
+            ],
+        ),
+    ];
+    for (readings, fails, wanted) in rows {
+        let mut clock = ScriptClock::new(
+            alloc,
+            readings_of(alloc, readings)?,
+            fails.to_vec(alloc)?,
+            0,
+        )?;
+        for want in wanted {
+            assert_eq!(rt; clock.now(), *want);
+        }
+    }
+    Ok(())
+}
+
+#[test]
+fn clocks_tell_moves_while_there_is_room(rt: HostRuntime) -> Result<(), Fail> {
+    let alloc = rt.alloc();
+    let mut clock = ScriptClock::new(alloc, readings_of(alloc, &[5, 7])?, [1].to_vec(alloc)?, 2)?;
+    clock.step(-3);
+    assert_eq!(rt; clock.now(), Reading::Failed);
+    clock.slew(4);
+    assert_eq!(rt; clock.moves(), [Move::Step(-3), Move::Slew(4)].as_slice());
+    assert_eq!(rt; clock.now(), Reading::At(5));
+    clock.slew(9);
+    assert!(rt; clock.moves().is_empty());
+    clock.step(9);
+    assert!(rt; clock.moves().is_empty());
+    assert_eq!(rt; clock.now(), Reading::At(7));
+    Ok(())
+}
+
+#[test]
+fn readers_and_writers(rt: HostRuntime) -> Result<(), Fail> {
+    let mut source = ReaderSource::new(b"abcdef".as_slice());
+    wants_reads(&rt, &mut source, &["abcd", "ef", ".", "."]);
+    let mut bytes = Vec::new(rt.alloc());
+    let mut sink = WriterSink::new(&mut bytes);
+    assert_eq!(rt; sink.write(b"ab"), Put::Done);
+    assert_eq!(rt; sink.write(b"cde"), Put::Done);
+    assert_eq!(rt; bytes.as_slice(), b"abcde".as_slice());
+    Ok(())
+}
+
+/// What a peer does at a call.
+#[derive(Clone, Copy)]
+enum Turn {
+    /// A signal cuts it short.
+    Signal,
+    /// It gives or takes one byte.
+    Byte,
+    /// It gives or takes nothing.
+    Nothing,
+    /// It is broken.
+    Broken,
+}
+
+/// A reader and writer that takes turns, and does nothing behind the last.
+#[derive(Drop)]
+struct Peer<'a> {
+    turns: &'a [Turn],
+}
+
+impl<'a> Peer<'a> {
+    fn turn(&mut self) -> io::Result<bool> {
+        let Some((turn, later)) = self.turns.split_first() else {
+            return Ok(false);
+        };
+        self.turns = later;
+        match turn {
+            Turn::Signal => Err(io::Error::from(ErrorKind::Interrupted)),
+            Turn::Byte => Ok(true),
+            Turn::Nothing => Ok(false),
+            Turn::Broken => Err(io::Error::from(ErrorKind::BrokenPipe)),
+        }
+    }
+}
+
+impl<'a> Read for Peer<'a> {
+    fn read(&mut self, buf: &mut [u8]) -> io::Result<usize> {
+        match buf {
+            [first, ..] if self.turn()? => {
+                *first = b'x';
+                Ok(1)
+            }
+            _ => Ok(0),
+        }
+    }
+}
+
+impl<'a> Write for Peer<'a> {
+    fn write(&mut self, buf: &[u8]) -> io::Result<usize> {
+        if !buf.is_empty() && self.turn()? {
+            Ok(1)
+        } else {
+            Ok(0)
+        }
+    }
+
+    fn flush(&mut self) -> io::Result<()> {
+        Ok(())
+    }
+}
+
+#[test]
+fn signals_are_no_faults(rt: HostRuntime) {
+    let turns = [
+        Turn::Signal,
+        Turn::Signal,
+        Turn::Byte,
+        Turn::Broken,
+        Turn::Signal,
+        Turn::Byte,
+        Turn::Nothing,
+    ];
+    let mut source = ReaderSource::new(Peer { turns: &turns });
+    wants_reads(&rt, &mut source, &["x", "!", "x", "."]);
+    let mut sink = WriterSink::new(Peer { turns: &turns });
+    assert_eq!(rt; sink.write(b"a"), Put::Done);
+    assert_eq!(rt; sink.write(b"a"), Put::Failed);
+    assert_eq!(rt; sink.write(b"ab"), Put::Failed, "nothing was taken of b");
+}
