@@ -1,0 +1,4 @@
+mod Lines
+mod Requests
+mod Signing
+mod Spelling

@@ -1,0 +1,5 @@
+pub mod Line
+pub mod Seen
+pub mod Sign
+pub mod Status
+pub mod Words

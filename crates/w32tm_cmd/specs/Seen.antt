@@ -1,0 +1,49 @@
+-- What the devices tell at a moment, and what a run did with each of them.
+use Rattle.std.specs.Prelude.{◌≡◌, ◌<◌, ◌≤◌, ℕ, ℤ, List, length, Option}
+use Rattle.base_specs.specs.Counts.{Rose}
+use Rattle.base_specs.specs.Told.{Took, IsUsedUp}
+use Rattle.edge_traits.specs.Clock.{ClockTold, GaveReadings}
+
+-- the bytes left on the input, the bytes written, the readings and moves of the clock, and the counts of failed calls
+pub record Seen : Type 0 where
+  pub left : Option (List ℕ)
+  pub read_faults : ℕ
+  pub written : Option (List ℕ)
+  pub write_faults : ℕ
+  pub clock : Option ClockTold
+  pub clock_faults : ℕ
+
+-- these bytes were read: all there were, or as many as the limit
+pub record ReadsInput (limit : ℕ) (before now : Seen) (input : List ℕ) : Type 0 where
+  pub took : Took before.left now.left input
+  pub most : length input ≤ limit
+  pub all : length input < limit → IsUsedUp now.left
+  pub no_fault : now.read_faults ≡ before.read_faults
+
+-- nothing was written
+pub record IsOutIdle (before now : Seen) : Type 0 where
+  pub bytes : now.written ≡ before.written
+  pub no_fault : now.write_faults ≡ before.write_faults
+
+-- the clock was neither read nor moved
+pub record IsClockIdle (before now : Seen) : Type 0 where
+  pub told : now.clock ≡ before.clock
+  pub no_fault : now.clock_faults ≡ before.clock_faults
+
+-- fewer readings than the limit were given, and no move was made
+pub record GaveFewer (limit : ℕ) (old new : Option ClockTold) : Type 0 where
+  pub given : List ℤ
+  pub fewer : length given < limit
+  pub readings : GaveReadings old new given
+
+-- no call failed
+pub record HasNoFault (before now : Seen) : Type 0 where
+  pub read : Rose before.read_faults now.read_faults → ⊥
+  pub write : Rose before.write_faults now.write_faults → ⊥
+  pub clock : Rose before.clock_faults now.clock_faults → ⊥
+
+-- no count falls
+pub record NeverFalls (before now : Seen) : Type 0 where
+  pub read : before.read_faults ≤ now.read_faults
+  pub write : before.write_faults ≤ now.write_faults
+  pub clock : before.clock_faults ≤ now.clock_faults

@@ -1,0 +1,32 @@
+-- Exit codes, and the lines on standard error.
+use Rattle.std.specs.Prelude.{ℕ, List, [], ◌∷◌, ◌++◌, codes}
+use Rattle.dc_sign.specs.declared.outcome.Refusal.{Refusal}
+use Rattle.dc_sign.specs.declared.outcome.Refusal.TheVariants.{BadLength, BadVersion, BadMode, UnknownAccount, NoOldKey}
+use Rattle.w32tm_cmd.specs.declared.status.Status.{Status}
+use Rattle.w32tm_cmd.specs.declared.status.Status.TheVariants.{Done, BadWords, ReadFault, WriteFault, ClockFault, BadRequest}
+
+-- the exit code of each status
+abbrev pub code_of : Status → ℕ
+code_of Done = 0
+code_of BadWords = 1
+code_of ReadFault = 4
+code_of WriteFault = 5
+code_of ClockFault = 9
+code_of (BadRequest reason) = 14
+
+-- the name of each reason for a refusal
+abbrev pub name_of : Refusal → List ℕ
+name_of BadLength = codes "BadLength"
+name_of BadVersion = codes "BadVersion"
+name_of BadMode = codes "BadMode"
+name_of UnknownAccount = codes "UnknownAccount"
+name_of NoOldKey = codes "NoOldKey"
+
+-- the line of each status, with its line feed; what was done has none
+abbrev pub line_of : Status → List ℕ
+line_of Done = []
+line_of BadWords = codes "w32tm: bad words" ++ 10 ∷ []
+line_of ReadFault = codes "w32tm: read fault" ++ 10 ∷ []
+line_of WriteFault = codes "w32tm: write fault" ++ 10 ∷ []
+line_of ClockFault = codes "w32tm: clock fault" ++ 10 ∷ []
+line_of (BadRequest reason) = codes "w32tm: bad request, " ++ name_of reason ++ 10 ∷ []

@@ -1,0 +1,48 @@
+//! The command `/sign`: a time request is read and answered as a domain controller answers it.
+ghost use Rattle.std.specs.Prelude.{◌≡◌};
+ghost use Rattle.dc_sign.specs.declared.outcome.Refusal.{Refusal};
+ghost use Rattle.w32tm_cmd.specs.Sign.{Signs};
+ghost use Rattle.w32tm_cmd.specs.declared.status.Status.TheVariants.{BadRequest};
+
+use crate::readings::two_readings;
+use crate::{Outside, Status, Tells};
+use dc_sign::{Answer, ServerInfo, answer};
+use edge_io::{Clock, DATAGRAM_LEN, Filled, Put, Sink, Source, fill_front};
+use key_book::Account;
+
+/// The most bytes that are read of a request: one more than a datagram holds, so that a longer input is
+/// seen to be longer.
+const INPUT_LEN: usize = DATAGRAM_LEN + 1;
+
+/// Reads the request, then the clock twice, and writes the reply under the account in one write.
+pub(crate) fn sign_request<S: Source, O: Sink, C: Clock>(
+    account: &Account,
+    outside: &mut Outside<S, O, C>,
+) -> Status
+    ensures sign { let seen = ⟦<Outside<S, O, C> as Tells>⟧.seen in
+        Signs account.now (seen outside.old) (seen outside.new) result }
+
+    // What each answer leaves as it was.
+    ensures others { outside.new ≡ record outside.old { capture_in = outside.new.capture_in; out = outside.new.out; clock = outside.new.clock } }
+    ensures read_fault { result ≡ Status.ReadFault
+        → outside.new ≡ record outside.old { capture_in = outside.new.capture_in } }
+    ensures clock_fault { result ≡ Status.ClockFault
+        → outside.new ≡ record outside.old { capture_in = outside.new.capture_in; clock = outside.new.clock } }
+    ensures refused { (reason : Refusal) → result ≡ BadRequest reason
+        → outside.new ≡ record outside.old { capture_in = outside.new.capture_in; clock = outside.new.clock } }
+{
+    let mut input = [0; INPUT_LEN];
+    let Filled::Bytes(count) = fill_front(&mut outside.capture_in, &mut input) else {
+        return Status::ReadFault;
+    };
+    let Some((t2, t3)) = two_readings(&mut outside.clock) else {
+        return Status::ClockFault;
+    };
+    match answer(account, &ServerInfo::local(t2), &input[..count], t2, t3) {
+        Answer::Signed(reply) | Answer::Plain(reply) => match outside.out.write(reply.as_slice()) {
+            Put::Done => Status::Done,
+            Put::Failed => Status::WriteFault,
+        },
+        Answer::Refused(reason) => Status::BadRequest { reason },
+    }
+}

@@ -1,0 +1,74 @@
+//! How a command ended.
+ghost use Rattle.std.specs.Prelude.{◌≡◌, ◌≤◌, length, IsTrue};
+ghost use Rattle.std.specs.Char.{is_ascii};
+ghost use Rattle.std.specs.List.{list_all};
+ghost use Rattle.w32tm_cmd.specs.Status.{code_of, line_of};
+
+use crate::LineText;
+use dc_sign::Refusal;
+
+/// How a command ended.
+#[derive(Clone, Copy, Debug, PartialEq, Eq)]
+pub enum Status {
+    /// The command was carried out.
+    Done,
+    /// The words spell no command.
+    BadWords,
+    /// A read failed.
+    ReadFault,
+    /// A write failed.
+    WriteFault,
+    /// A reading of the clock failed.
+    ClockFault,
+    /// The request gets no reply, for this reason.
+    BadRequest { reason: Refusal },
+}
+
+impl Status {
+    /// The exit code of the program.
+    pub fn code(&self) -> u8
+        ensures { result ≡ code_of self.now }
+    {
+        match self {
+            Status::Done => 0,
+            Status::BadWords => 1,
+            Status::ReadFault => 4,
+            Status::WriteFault => 5,
+            Status::ClockFault => 9,
+            Status::BadRequest { .. } => 14,
+        }
+    }
+}
+
+/// The line on standard error, with its line feed. What was done has none.
+pub fn status_line(status: &Status) -> LineText
+    ensures { result ≡ line_of status.now }
+{
+    match status {
+        Status::Done => line(""),
+        Status::BadWords => line("w32tm: bad words\n"),
+        Status::ReadFault => line("w32tm: read fault\n"),
+        Status::WriteFault => line("w32tm: write fault\n"),
+        Status::ClockFault => line("w32tm: clock fault\n"),
+        Status::BadRequest { reason } => match reason {
+            Refusal::BadLength => line("w32tm: bad request, BadLength\n"),
+            Refusal::BadVersion => line("w32tm: bad request, BadVersion\n"),
+            Refusal::BadMode => line("w32tm: bad request, BadMode\n"),
+            Refusal::UnknownAccount => line("w32tm: bad request, UnknownAccount\n"),
+            Refusal::NoOldKey => line("w32tm: bad request, NoOldKey\n"),
+        },
+    }
+}
+
+/// A text that fits a line.
+#[tactic(auto, using(crate::proofs::Lines::is_ascii_text))]
+fn line(text: &str) -> LineText
+    requires within { length text.now ≤ 96 }
+    requires ascii { IsTrue (list_all is_ascii text.now) }
+    ensures { result ≡ text.now }
+{
+    match LineText::from_slice(text.as_bytes()) {
+        Some(line) => line,
+        None => unreachable!(),
+    }
+}
