@@ -1,0 +1,6 @@
+use Rattle.std.proofs.Common.{◌≡◌, ◌++◌, map, take, drop, bit_xor}
+use Rattle.mac_kdf.proofs.hmac.masked.Given as goal
+
+abbrev pub invariant-loop-byte : goal.invariant-loop-byte
+invariant-loop-byte l =
+    l.byte-items ≡ map (λ byte. bit_xor byte l.mask) (take l.byte-index l.fn.block) ++ drop l.byte-index l.fn.block
