@@ -1,16 +1,24 @@
-//! The parts of which the texts and words are made: numbers in decimal and keys in hexadecimal digits.
+//! The parts of texts and words: lines, numbers in decimal, and keys in hexadecimal digits.
 //!
-//! Each part has one definition of its spelling, and each reader's contract says both directions: what it
-//! reads is spelled so, and whatever is spelled so is read. A number has one spelling, `decimal` of std; a
-//! key is what `decode_of` of the crate `hex` makes of its digits, which may be in either case.
+//! Each part has its definition apart from the code, and each reader's contract says both directions: what it
+//! reads is spelled so, and whatever is spelled so is read. The lines of a text are `lines` of std; a number
+//! has one spelling, `decimal` of std; a key is what `decode_of` of the crate `hex` makes of its digits, which
+//! may be in either case.
 //!
-//! It stands on std and `hex` alone. The layers above split words and lines at their blanks and colons, which
-//! no number and no key has in it: `proofs/Decimals.antt` and `proofs/Keys.antt` have these facts for their
-//! proofs. The definitions are in `specs/`.
+//! Texts of lines have one form of definition, in `specs/Lines.antt`: a `TextForm` says which lines are looked
+//! at, what each of these may say, and which two sayings don't stand in one text. The lines of a text `Say`
+//! values, or there is a first bad line, which `IsFirstBad` names beside what the lines before it say.
+//!
+//! It stands on std and `hex` alone. The layers above read line by line with [`next_line`] and cut lines at
+//! their blanks and colons, which no number and no key has in it. For their proofs, `proofs/Progress.antt` has
+//! the steps of a loop over lines, `proofs/Forms.antt` that one verdict is true of a text, and `Cuts.antt`,
+//! `Decimals.antt` and `Keys.antt` what stands in a line's parts.
 #![tactic(auto)]
 
+mod lines;
 #[cfg(test)]
 mod tests;
 mod words;
 
+pub use lines::{cut, is_skipped, next_line};
 pub use words::{read_decimal, read_key};

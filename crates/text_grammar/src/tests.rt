@@ -1,5 +1,5 @@
 //! Texts that are numbers and keys, and texts that are not.
-use crate::{read_decimal, read_key};
+use crate::{cut, is_skipped, next_line, read_decimal, read_key};
 
 #[test]
 fn numbers_in_their_one_spelling(rt: HostRuntime) {
@@ -47,4 +47,51 @@ fn keys_in_either_case(rt: HostRuntime) {
     for (text, want) in table {
         assert_eq!(rt; read_key(text), want, "at {text:?}");
     }
+}
+
+#[test]
+fn lines_and_their_ends(rt: HostRuntime) {
+    let table: [(&[u8], &[&[u8]]); 12] = [
+        (b"", &[]),
+        (b"\n", &[b""]),
+        (b"\n\n", &[b"", b""]),
+        (b"a", &[b"a"]),
+        (b"a\n", &[b"a"]),
+        (b"a\nb", &[b"a", b"b"]),
+        (b"a\n\nb\n", &[b"a", b"", b"b"]),
+        (b"a\r\nb\r\n", &[b"a", b"b"]),
+        (b"a\r\r\n", &[b"a\r"]),
+        (b"a\rb\n", &[b"a\rb"]),
+        (b"a\r", &[b"a\r"]),
+        (b"\r\n\xFF", &[b"", b"\xFF"]),
+    ];
+    for (text, want) in table {
+        let mut left = text;
+        for line in want {
+            match next_line(left) {
+                Some((found, rest)) => {
+                    assert_eq!(rt; found, *line, "at {text:?}");
+                    left = rest;
+                }
+                None => assert!(rt; false, "a line is missing at {text:?}"),
+            }
+        }
+        assert!(rt; next_line(left).is_none(), "a line too many at {text:?}");
+    }
+}
+
+#[test]
+fn cuts_and_comments(rt: HostRuntime) {
+    let table: [(&[u8], Option<(&[u8], &[u8])>); 5] = [
+        (b"", None),
+        (b"5", None),
+        (b" ", Some((b"", b""))),
+        (b"5 6 7", Some((b"5", b"6 7"))),
+        (b"5  6", Some((b"5", b" 6"))),
+    ];
+    for (text, want) in table {
+        assert!(rt; cut(text, b' ') == want, "at {text:?}");
+    }
+    assert!(rt; is_skipped(b"") && is_skipped(b"#") && is_skipped(b"#\xFF\r"));
+    assert!(rt; !is_skipped(b" #") && !is_skipped(b"\r"));
 }
