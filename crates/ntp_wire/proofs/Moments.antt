@@ -1,7 +1,7 @@
 -- Moments and their timestamps, as arithmetic on numbers.
-use Rattle.std.proofs.Common.{◌≡◌, ℕ, ◌+◌, ◌-◌, ◌*◌, ◌/◌, ◌%◌, ◌^◌, ◌<◌, ◌≤◌, ℤ, pos, negsuc, ◌+ℤ◌, ◌-ℤ◌, ◌≤ℤ◌, ap, subst, arith, to_z, of_z, w64}
+use Rattle.std.proofs.Common.{◌≡◌, ℕ, ◌+◌, ◌*◌, ◌/◌, ◌%◌, ◌^◌, ◌<◌, ◌≤◌, ℤ, pos, negsuc, ◌+ℤ◌, ◌-ℤ◌, ◌≤ℤ◌, ap, subst, arith, to_z, of_z, w64}
 use Rattle.std.specs.Prelude.{◌<ℤ◌}
-use Rattle.std.specs.Int.{div_ceil, int_rem_euclid}
+use Rattle.std.specs.Int.{int_rem_euclid}
 use Rattle.std.proofs.lemmas.Int.{ints}
 use Rattle.base_specs.specs.Time.{IsStamp, IsPart, IsTicksNear, SameModulo}
 use Rattle.ntp_wire.specs.declared.stamp.Stamp.{Stamp}
@@ -9,14 +9,14 @@ use Rattle.ntp_wire.specs.Stamp.{IsStampOf, IsInReach, ticks_of}
 
 -- ---- The timestamp of a moment
 
-pub stamp_made : (t : ℕ) → IsStamp t ((t / 10000000 + 3449417088) % 4294967296) (div_ceil (t % 10000000 * 4294967296) 10000000)
-stamp_made t =
-    record {
-      fits = omega arith;
-      congruent = ((t / 10000000 + 3449417088) / 4294967296, 3, ap pos (omega arith));
-      enough = omega arith;
-      least = λ f h. omega arith;
-    }
+pub stamp_made : (t fraction : ℕ) → t % 10000000 * 2 ^ 32 ≤ fraction * 10000000 → ((f : ℕ) → t % 10000000 * 2 ^ 32 ≤ f * 10000000 → fraction ≤ f)
+    → IsStamp t ((t / 10000000 + 3449417088) % 4294967296) fraction
+stamp_made t fraction enough least = record {
+  fits = omega arith;
+  congruent = ((t / 10000000 + 3449417088) / 4294967296, 3, ap pos (omega arith));
+  enough = enough;
+  least = least;
+}
 
 one_stamp_made : (n : ℕ) (a b : Stamp) → IsStamp n a.seconds a.fraction → IsStamp n b.seconds b.fraction → a ≡ b
 one_stamp_made n a b first next =
@@ -119,19 +119,15 @@ moment_back s near x t ticks stamp reach =
     let is = stamp.1 in
     omega (arith, ints)
 
--- The moment as the code computes it: 94 eras more keep what is left above 0.
-pub moment_made : (s : Stamp) (near : ℤ) (seconds fraction n : ℕ) → seconds ≡ s.seconds → fraction ≡ s.fraction → s.seconds < 2 ^ 32 → s.fraction < 2 ^ 32 → near ≡ pos n → n ≤ 4000000000000000000
-    → IsTicksNear s.seconds s.fraction near
-    (to_z w64 (of_z w64 (to_z w64 (n + ((seconds + 9435484800) * 10000000 + fraction * 10000000 / 4294967296 + 21474836480000000 + 4037269258240000000 - n) % 42949672960000000) -ℤ pos 21474836480000000)))
-moment_made s near seconds fraction n same_seconds same_fraction fits also is within =
-    let part = s.fraction * 10000000 / 4294967296 in
-    let base = (seconds + 9435484800) * 10000000 + fraction * 10000000 / 4294967296 in
-    let whole = base + 21474836480000000 + 4037269258240000000 - n in
-    let ahead = whole % 42949672960000000 in
+-- the moment that lies so far above the earliest one in reach
+pub moment_made : (s : Stamp) (near : ℤ) (base part n ahead : ℕ) → IsPart s.fraction part → base ≡ (s.seconds + 9435484800) * 10000000 + part → near ≡ pos n → n ≤ 4000000000000000000
+    → ahead < 42949672960000000 → (n + ahead) % 42949672960000000 ≡ (base + 21474836480000000) % 42949672960000000
+    → IsTicksNear s.seconds s.fraction near (to_z w64 (of_z w64 (to_z w64 (n + ahead) -ℤ pos 21474836480000000)))
+moment_made s near base part n ahead is_part base_is near_is within bound congruent =
     let t = to_z w64 (of_z w64 (to_z w64 (n + ahead) -ℤ pos 21474836480000000)) in
     let value : t +ℤ pos 21474836480000000 ≡ pos (n + ahead) = omega (arith, ints) in
     record {
       low = omega (arith, ints);
       high = omega (arith, ints);
-      same = (part, part_made s.fraction, (whole / 42949672960000000, 94, omega (arith, ints)));
+      same = (part, is_part, ((base + 21474836480000000) / 42949672960000000, (n + ahead) / 42949672960000000, omega (arith, ints)));
     }

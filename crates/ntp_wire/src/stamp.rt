@@ -1,8 +1,8 @@
 //! Timestamps of 64 bits, and ticks of 100 ns since 1 January 1601.
-ghost use Rattle.std.specs.Prelude.{◌≡◌, ℤ};
-ghost use Rattle.base_specs.specs.Time.{IsReading, IsTicksNear};
+ghost use Rattle.std.specs.Prelude.{◌≡◌, ◌+◌, ◌*◌, ◌%◌, ◌^◌, ◌<◌, ◌≤◌, ℕ, ℤ};
+ghost use Rattle.base_specs.specs.Time.{IsPart, IsReading, IsTicksNear, second};
 ghost use Rattle.ntp_wire.specs.declared.stamp.Stamp.{Stamp};
-ghost use Rattle.ntp_wire.specs.Stamp.{IsInReach, IsStampOf, ticks_of};
+ghost use Rattle.ntp_wire.specs.Stamp.{IsInReach, IsStampOf, era, ticks_of};
 
 /// Ticks in a second.
 const SECOND: u64 = 10_000_000;
@@ -39,10 +39,9 @@ pub fn to_ntp(ticks: i64) -> Stamp
 {
     let ticks = ticks.unsigned_abs();
     let seconds = (ticks / SECOND + (3 * ERA_SECONDS - WIRE_EPOCH)) % ERA_SECONDS;
-    let fraction = (ticks % SECOND * ERA_SECONDS).div_ceil(SECOND);
     Stamp {
         seconds: seconds as u32,
-        fraction: fraction as u32,
+        fraction: fraction_of(ticks % SECOND),
     }
 }
 
@@ -59,10 +58,36 @@ pub fn to_ticks(stamp: Stamp, near: i64) -> i64
     // The timestamp of a moment in reach gives the moment back.
     ensures back { (t : ℤ) → IsStampOf t stamp → IsInReach near t → result ≡ t }
 {
-    let part = u64::from(stamp.fraction) * SECOND / ERA_SECONDS;
-    let base = (u64::from(stamp.seconds) + WIRE_EPOCH) * SECOND + part;
+    let base = (u64::from(stamp.seconds) + WIRE_EPOCH) * SECOND + part_of(stamp.fraction);
     let near = near.unsigned_abs();
-    // 94 eras more than any reading, so that nothing falls below 0.
-    let ahead = (base + HALF_ERA + 94 * ERA - near) % ERA;
-    (near + ahead) as i64 - HALF_ERA as i64
+    (near + ahead_of(base, near)) as i64 - HALF_ERA as i64
+}
+
+/// The least fraction that isn't below a part of a second, which is in ticks.
+fn fraction_of(part: u64) -> u32
+    requires { part < second }
+    ensures enough { part * 2 ^ 32 ≤ result * second }
+    ensures least { (f : ℕ) → part * 2 ^ 32 ≤ f * second → result ≤ f }
+{
+    (part * ERA_SECONDS).div_ceil(SECOND) as u32
+}
+
+/// The greatest part of a second, in ticks, that isn't above a fraction.
+fn part_of(fraction: u32) -> u64
+    ensures part { IsPart fraction result }
+    ensures bound { result < second }
+{
+    u64::from(fraction) * SECOND / ERA_SECONDS
+}
+
+/// How far above the earliest moment in reach of `near`, which is half an era before it, the first one lies that differs
+/// from `base` by whole eras.
+fn ahead_of(base: u64, near: u64) -> u64
+    requires base { base < 2 ^ 60 }
+    requires near { near ≤ 4000000000000000000 }
+    ensures bound { result < era }
+    ensures congruent { (near + result) % era ≡ (base + 2 ^ 31 * second) % era }
+{
+    // 94 eras are more than any reading, so nothing falls below 0.
+    (base + HALF_ERA + 94 * ERA - near) % ERA
 }

@@ -7,7 +7,7 @@ pub returns-clause-near : goal.returns-clause-near
 returns-clause-near c =
     let low = c.requires.0 in
     let near : c.args.near ≡ pos c.unsigned_abs-near.result = omega (arith, ints) in
-    moment_made c.args.stamp c.args.near c.from-2.result c.from.result c.unsigned_abs-near.result c.from-2.ensures c.from.ensures (search rules) (search rules) near (omega (arith, ints))
+    moment_made c.args.stamp c.args.near _ c.part_of.result c.unsigned_abs-near.result c.ahead_of.result c.part_of.ensures.part (search rules) near (omega (arith, ints)) c.ahead_of.ensures.bound c.ahead_of.ensures.congruent
 
 pub returns-clause-value : goal.returns-clause-value
 returns-clause-value c = one_moment c.args.stamp c.args.near _ _ (returns-clause-near c) (ticks_of_is_near c.args.stamp c.args.near)
