@@ -1,5 +1,5 @@
 -- One text spells one message, and a message has one signed form.
-use Rattle.std.proofs.Common.{◌≡◌, ℕ, ◌+◌, List, ◌∷◌, length, Option, refl, sym, ◌∙◌, ap, arith}
+use Rattle.std.proofs.Common.{◌≡◌, ℕ, ◌+◌, ◌≤◌, List, ◌∷◌, length, Option, inl, inr, refl, sym, ◌∙◌, ap, arith}
 use Rattle.byte_codec.specs.Numbers.{low_word_bytes}
 use Rattle.byte_codec.proofs.Numbers.{length-low_number_bytes, same_low_number}
 use Rattle.byte_codec.proofs.Parts.{same_parts, longer}
@@ -9,7 +9,7 @@ use Rattle.ntp_wire.proofs.Uniqueness.{one_header}
 use Rattle.ms_auth.specs.declared.packet.Packet.{Packet}
 use Rattle.ms_auth.specs.declared.packet.Tail.{Tail}
 use Rattle.ms_auth.specs.declared.packet.Tail.TheVariants.{Plain, Short68, Ext120}
-use Rattle.ms_auth.specs.Packet.{SpellsPacket, TailFits, tail_bytes}
+use Rattle.ms_auth.specs.Packet.{IsPacketLength, IsTailLength, SpellsPacket, TailFits, tail_bytes}
 use Rattle.ms_auth.specs.Digest.{IsSigned, IsSignedTail, digest_of}
 
 -- bytes in a tail
@@ -25,10 +25,30 @@ length-tail_bytes (Short68 key_id sum) fits = longer 4 16 (low_word_bytes key_id
 length-tail_bytes (Ext120 rid reserved flags hints hash sum) fits =
     longer 4 68 (low_word_bytes rid) (reserved ∷ flags ∷ hints ∷ hash ∷ sum) (length-low_number_bytes 4 rid) (omega (arith, fits.1))
 
+has_length : (t : Tail) (n : ℕ) → n ≡ 48 + tail_length t → IsPacketLength n
+unfolding tail_length
+has_length Plain n same = inl same
+has_length (Short68 key_id sum) n same = inr (inl same)
+has_length (Ext120 rid reserved flags hints hash sum) n same = inr (inr same)
+
+-- a message is as long as a header and one of the tails
+pub length_with_tail : (n m : ℕ) → m + 48 ≡ n → IsTailLength m → IsPacketLength n
+length_with_tail n m same long = elim long [ inl e ↦ inl (omega (arith, same, e)) | inr f ↦ elim f [ inl e ↦ inr (inl (omega (arith, same, e))) | inr e ↦ inr (inr (omega (arith, same, e))) ] ]
+
+pub length_of_tail : (n m : ℕ) → m + 48 ≡ n → IsPacketLength n → IsTailLength m
+length_of_tail n m same long = elim long [ inl e ↦ inl (omega (arith, same, e)) | inr f ↦ elim f [ inl e ↦ inr (inl (omega (arith, same, e))) | inr e ↦ inr (inr (omega (arith, same, e))) ] ]
+
 pub length-packet_bytes : (p : Packet) (bytes : List ℕ) → SpellsPacket p bytes → length bytes ≡ 48 + tail_length p.tail
 length-packet_bytes p bytes spells =
     ap length spells.written
     ∙ longer 48 (tail_length p.tail) (header_bytes p.header) (tail_bytes p.tail) (length-header_bytes p.header spells.fits.header.reference_id) (length-tail_bytes p.tail spells.fits.tail)
+
+pub long_enough : (p : Packet) (bytes : List ℕ) → SpellsPacket p bytes → 48 ≤ length bytes
+long_enough p bytes spells = omega (arith, length-packet_bytes p bytes spells)
+
+-- what is spelled has one of the lengths of messages
+pub packet_length : (p : Packet) (bytes : List ℕ) → SpellsPacket p bytes → IsPacketLength (length bytes)
+packet_length p bytes spells = has_length p.tail (length bytes) (length-packet_bytes p bytes spells)
 
 same_tail : (a b : Tail) → TailFits a → TailFits b → tail_length a ≡ tail_length b → tail_bytes a ≡ tail_bytes b → a ≡ b
 unfolding tail_length

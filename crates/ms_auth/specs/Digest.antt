@@ -17,6 +17,18 @@ tail_digest (Ext120 rid reserved flags hints hash sum) key header = None
 abbrev pub digest_of : Packet → List ℕ → Option (List ℕ)
 digest_of p key = tail_digest p.tail key (header_bytes p.header)
 
+-- the checksum that a tail carries
+abbrev pub sum_of : Tail → Option (List ℕ)
+sum_of Plain = None
+sum_of (Short68 key_id sum) = Some sum
+sum_of (Ext120 rid reserved flags hints hash sum) = Some sum
+
+-- the message carries a checksum, and it is the one under the key
+pub record HasDigest (key : List ℕ) (p : Packet) : Type 0 where
+  pub sum : List ℕ
+  pub carried : sum_of p.tail ≡ Some sum
+  pub is_digest : digest_of p key ≡ Some sum
+
 -- what a tail becomes with this checksum: a plain one stays as it is
 abbrev pub IsSignedTail : Option (List ℕ) → Tail → Tail → Type 0
 IsSignedTail digest Plain now = now ≡ Plain

@@ -1,3 +1,4 @@
 pub mod Digest
 pub mod Fields
 pub mod Packet
+pub mod Request

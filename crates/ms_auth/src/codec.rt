@@ -1,44 +1,45 @@
 //! Reading and writing messages.
-ghost use Rattle.std.specs.Prelude.{◌≡◌, ◌≢◌, ◌≤◌, ◌+◌, ◌++◌, ◌↔◌, length, IfOk, IsErr, Ok};
+ghost use Rattle.std.specs.Prelude.{◌≡◌, ◌≤◌, ◌+◌, ◌++◌, ◌↔◌, ℕ, List, length, IfOk, OnOk, IsErr, Ok};
 ghost use Rattle.arrayvec.specs.ArrayVec.{array_vec_len};
 ghost use Rattle.ms_auth.specs.declared.packet.Packet.{Packet};
-ghost use Rattle.ms_auth.specs.Fields.{IsTailAt};
-ghost use Rattle.ms_auth.specs.Packet.{SpellsPacket, IsShort, TailFits, packet_bytes, tail_bytes};
+ghost use Rattle.ms_auth.specs.Packet.{IsPacketLength, IsTailLength, SpellsPacket, SpellsTail, TailFits, packet_bytes, tail_bytes};
 
-use crate::{BadLength, Packet, SHORT_LEN, Tail};
+use crate::{BadLength, EXTENDED_LEN, Packet, SHORT_LEN, Tail};
 use arrayvec::ArrayVec;
 use byte_codec::{add, add_u32_low_first, read_array, read_u32_low_first};
 use edge_traits::Datagram;
 use ntp_wire::{HEADER_LEN, read_header, write_header};
 
-/// The message that the bytes spell, or `BadLength` exactly where they aren't 68.
+/// Bytes behind the header of a short and of an extended message.
+const SHORT_TAIL_LEN: usize = SHORT_LEN - HEADER_LEN;
+
+const EXTENDED_TAIL_LEN: usize = EXTENDED_LEN - HEADER_LEN;
+
+/// The message that the bytes spell, or `BadLength` exactly where they aren't 48, 68 or 120.
 pub fn read_packet(bytes: &[u8]) -> Result<Packet, BadLength>
     ensures read { IfOk result (λ p. SpellsPacket p bytes.now) }
-    ensures short { IfOk result (λ p. IsShort p.tail) }
-    ensures bad_length { IsErr result ↔ (length bytes.now ≢ 68) }
+    ensures length { OnOk result (IsPacketLength (length bytes.now)) }
+    ensures bad_length { IsErr result ↔ ¬ IsPacketLength (length bytes.now) }
 
-    // Bytes spell one message, which is found where they are 68.
+    // Bytes spell one message, and what was written is read again.
     ensures only { (p q : Packet) → SpellsPacket p bytes.now → SpellsPacket q bytes.now → p ≡ q }
-    ensures found { (p : Packet) → SpellsPacket p bytes.now → length bytes.now ≡ 68 → result ≡ Ok p }
+    ensures found { (p : Packet) → SpellsPacket p bytes.now → result ≡ Ok p }
 {
-    if bytes.len() != SHORT_LEN {
+    let Ok(header) = read_header(bytes) else {
         return Err(BadLength);
-    }
-    let (_, tail) = bytes.split_at(HEADER_LEN);
-    match read_header(bytes) {
-        Ok(header) => Ok(Packet {
-            header,
-            tail: short_tail(tail),
-        }),
-        Err(_) => Err(BadLength),
-    }
+    };
+    let (_, rest) = bytes.split_at(HEADER_LEN);
+    let tail = read_tail(rest)?;
+    Ok(Packet { header, tail })
 }
 
-/// The one spelling of a short message.
+/// The one spelling of a message.
 pub fn write_packet(packet: &Packet) -> Datagram
-    requires { IsShort packet.now.tail }
     ensures spells { SpellsPacket packet.now result }
     ensures written { result ≡ packet_bytes packet.now }
+
+    // What was read is written again.
+    ensures again { (bytes : List ℕ) → SpellsPacket packet.now bytes → result ≡ bytes }
 {
     Datagram::from_slice(spelling_of(*packet).as_slice())
 }
@@ -81,14 +82,41 @@ fn add_tail(bytes: &mut ArrayVec<u8, 256>, tail: Tail)
     }
 }
 
-/// The tail of a short message.
+/// The tail that the bytes behind a header spell.
+fn read_tail(bytes: &[u8]) -> Result<Tail, BadLength>
+    ensures read { IfOk result (λ t. SpellsTail t bytes.now) }
+    ensures bad_length { IsErr result ↔ ¬ IsTailLength (length bytes.now) }
+{
+    match bytes.len() {
+        0 => Ok(Tail::Plain),
+        SHORT_TAIL_LEN => Ok(short_tail(bytes)),
+        EXTENDED_TAIL_LEN => Ok(extended_tail(bytes)),
+        _ => Err(BadLength),
+    }
+}
+
 fn short_tail(bytes: &[u8]) -> Tail
     requires { length bytes.now ≡ 20 }
-    ensures spells { bytes.now ≡ tail_bytes result }
-    ensures short { IsShort result }
-    ensures fits { TailFits result }
+    ensures { SpellsTail result bytes.now }
 {
     let (key_id, rest) = read_u32_low_first(bytes);
     let (sum, _) = read_array(rest);
     Tail::Short68 { key_id, sum }
+}
+
+fn extended_tail(bytes: &[u8]) -> Tail
+    requires { length bytes.now ≡ 72 }
+    ensures { SpellsTail result bytes.now }
+{
+    let (rid, rest) = read_u32_low_first(bytes);
+    let ([reserved, flags, hints, hash], rest) = read_array::<4>(rest);
+    let (sum, _) = read_array(rest);
+    Tail::Ext120 {
+        rid,
+        reserved,
+        flags,
+        hints,
+        hash,
+        sum,
+    }
 }

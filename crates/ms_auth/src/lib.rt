@@ -1,20 +1,24 @@
 //! Time messages that carry a checksum under an account's key (MS-SNTP). No memory is taken.
 //!
 //! A message is a header of `ntp_wire` and a tail: none, the 20 bytes of an Authenticator, or the 72 bytes of an
-//! ExtendedAuthenticator. It stands on `byte_codec` and `ntp_wire` for its bytes, on `md5` for checksums, and on `edge_traits`
-//! for the datagram that is sent. The layer above may rely on this: `read_packet` gives the one message that 68 bytes spell
-//! and refuses every other length, `write_packet` writes the one spelling of a short message, and `sign` replaces the
-//! checksum of a short message, and nothing else, by MD5 of key and header. Extended messages are neither read nor signed
-//! yet.
+//! ExtendedAuthenticator. The crate stands on `byte_codec` and `ntp_wire` for its bytes, on `md5` for checksums, and on
+//! `edge_traits` for the datagram that is sent. The layer above may rely on this: each list of 48, 68 or 120 bytes spells
+//! exactly one message, and no other list spells any; `read_packet` and `write_packet` are each other's inverse; `request`
+//! gives the one request of a member; `sign` replaces the checksum and nothing else, and `check` is true exactly where a
+//! message carries the checksum under the key. Extended messages are read and written, but not signed or checked yet.
 //!
-//! `specs/Packet.antt` has the spelling, `specs/Digest.antt` the checksum, and `specs/Fields.antt` the fields of a tail by
-//! their places, which `proofs/Fields.antt` ties to the message that the bytes spell.
+//! `specs/Packet.antt` has the spelling, `specs/Request.antt` the request, `specs/Digest.antt` the checksum, and
+//! `specs/Fields.antt` the fields of a tail by their places, which `proofs/Fields.antt` ties to the message that bytes spell.
 #![tactic(auto)]
 
 mod codec;
 mod packet;
+mod requests;
 mod signing;
+#[cfg(test)]
+mod tests;
 
 pub use codec::{read_packet, write_packet};
-pub use packet::{BadLength, Packet, SHORT_LEN, Tail};
-pub use signing::sign;
+pub use packet::{BadLength, EXTENDED_LEN, Kind, Packet, SHORT_LEN, Tail};
+pub use requests::request;
+pub use signing::{check, sign};

@@ -4,6 +4,18 @@ use ntp_wire::Header;
 /// Bytes in a short message.
 pub const SHORT_LEN: usize = 68;
 
+/// Bytes in an extended message.
+pub const EXTENDED_LEN: usize = 120;
+
+/// Which checksum a request asks for.
+#[derive(Clone, Copy, Debug, PartialEq, Eq)]
+pub enum Kind {
+    /// That of an Authenticator, in 68 bytes.
+    Short,
+    /// That of an ExtendedAuthenticator, in 120 bytes.
+    Extended,
+}
+
 /// What stands behind the header.
 #[derive(Clone, Copy, Debug, PartialEq, Eq)]
 pub enum Tail {
@@ -40,6 +52,6 @@ pub struct Packet {
     pub tail: Tail,
 }
 
-/// The bytes are no message, since messages have other lengths.
+/// The bytes are no message: messages have 48, 68 or 120.
 #[derive(Clone, Copy, Debug, PartialEq, Eq)]
 pub struct BadLength;

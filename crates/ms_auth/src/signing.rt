@@ -1,8 +1,8 @@
 //! The checksum of a message.
-ghost use Rattle.std.specs.Prelude.{◌≡◌, ◌++◌};
+ghost use Rattle.std.specs.Prelude.{◌≡◌, ◌++◌, ◌↔◌, IsTrue};
 ghost use Rattle.md5.specs.Md5.{md5};
 ghost use Rattle.ms_auth.specs.declared.packet.Packet.{Packet};
-ghost use Rattle.ms_auth.specs.Digest.{IsSigned};
+ghost use Rattle.ms_auth.specs.Digest.{HasDigest, IsSigned};
 ghost use Rattle.ms_auth.specs.Packet.{IsNotExtended, IsShort};
 
 use crate::{Packet, Tail};
@@ -28,6 +28,22 @@ pub fn sign(packet: &Packet, key: &[u8; 16]) -> Packet
                 header: packet.header,
                 tail: Tail::Short68 { key_id, sum },
             }
+        }
+        Tail::Ext120 { .. } => unreachable!(),
+    }
+}
+
+/// Whether the message carries the checksum under the account's key. A plain one carries none.
+pub fn check(packet: &Packet, key: &[u8; 16]) -> bool
+    requires { IsNotExtended packet.now.tail }
+    ensures { IsTrue result ↔ HasDigest key.now packet.now }
+{
+    match packet.tail {
+        Tail::Plain => false,
+        Tail::Short68 { sum, .. } => {
+            let mut header = [0; 48];
+            write_header(&packet.header, &mut header);
+            sum == md5_sum(key, &header)
         }
         Tail::Ext120 { .. } => unreachable!(),
     }

@@ -12,3 +12,6 @@ returns-clause-spells c =
 
 pub returns-clause-written : goal.returns-clause-written
 returns-clause-written c = (returns-clause-spells c).written
+
+pub returns-clause-again : goal.returns-clause-again
+returns-clause-again c bytes spells = returns-clause-written c ∙ sym spells.written
