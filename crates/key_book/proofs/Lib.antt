@@ -1,1 +1,4 @@
+pub mod AccountLines
 pub mod Finding
+pub mod Parsings
+pub mod Printing

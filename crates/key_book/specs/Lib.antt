@@ -1,1 +1,4 @@
 pub mod AccountBook
+pub mod AccountText
+pub mod Book
+pub mod Parsing

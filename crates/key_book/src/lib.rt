@@ -1,16 +1,31 @@
-//! The accounts of a domain and their keys.
+//! The accounts of a domain, their keys, and the text in which they stand.
 //!
 //! An account has a relative identifier (RID), the key that holds now, and perhaps the one that held before.
 //! [`Keys`] is whatever accounts are looked up in: its ghost member is the list of them, and `find` answers by
-//! that list alone. One account is such a list by itself.
+//! that list alone. [`Book`] is such a list with distinct RIDs, and so is one account by itself.
 //!
-//! The crate stands on the standard library alone. The layer above may rely on the clauses of `find` and on
-//! `key_of`, the key that a RID and the wish for the old one name in a list. The definitions stand in
-//! `specs/AccountBook.antt`, and `proofs/Finding.antt` has what they say of every list.
+//! A text of accounts says one book, or has one first bad account line, and [`parse_accounts`] answers it;
+//! what [`Book::print`] writes says the same book again. Want of memory is the one answer that comes freely.
+//!
+//! The crate stands on `text_grammar` (lines, numbers and keys), `hex` and `thiserror`. The layer above may
+//! rely on the clauses of `find`, `parse_accounts` and `print`, and on `key_of`, the key that a RID and the
+//! wish for the old one name in a list. The definitions stand in `specs/`: accounts and what is looked up in
+//! `AccountBook.antt`, what a book holds in `Book.antt`, the account line in `AccountText.antt`, and what the
+//! reader answers in `Parsing.antt`.
 #![tactic(auto)]
 
 mod account;
+mod book;
+mod fault;
 mod keys;
+mod line;
+mod parse;
+mod print;
+#[cfg(test)]
+mod tests;
 
 pub use account::Account;
+pub use book::Book;
+pub use fault::{BookFault, NoMemory};
 pub use keys::Keys;
+pub use parse::parse_accounts;

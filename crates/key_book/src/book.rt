@@ -1,0 +1,81 @@
+//! Accounts with distinct RIDs.
+ghost use Rattle.std.specs.Prelude.{◌≡◌};
+ghost use Rattle.key_book.specs.AccountBook.{account_of};
+
+use crate::print::print_accounts;
+use crate::{Account, Keys, NoMemory};
+use std::alloc::{AllocError, Global};
+use std::marker::Model;
+
+/// Accounts with distinct RIDs, in the order of their lines. Contracts see the list of them.
+#[derive(Drop)]
+pub struct Book {
+    accounts: Vec<Account>,
+}
+
+impl Model for Book {
+    ghost use Rattle.std.specs.Prelude.{List};
+    ghost use Rattle.key_book.specs.declared.account.Account.{Account};
+    ghost use Rattle.key_book.specs.Book.{IsBook};
+
+    ghost Value = { List Account };
+
+    ghost view = { λ book. book.accounts.items };
+
+    ghost invariant = { λ book. IsBook book.accounts.items };
+}
+
+impl Book {
+    ghost use Rattle.std.specs.Prelude.{◌≡◌, [], ◌∷◌, ◌++◌, IfOk, OnOk, Ok};
+    ghost use Rattle.std.specs.Str.Lines.{lines};
+    ghost use Rattle.key_book.specs.AccountBook.{NoneHas};
+    ghost use Rattle.key_book.specs.Book.{IsAccount};
+    ghost use Rattle.key_book.specs.AccountText.{printed};
+    ghost use Rattle.key_book.specs.Parsing.{IsAnswer};
+
+    /// A book without accounts.
+    pub(crate) fn new(alloc: Global) -> Self
+        ensures { result ≡ [] }
+    {
+        Book {
+            accounts: Vec::new(alloc),
+        }
+    }
+
+    /// Adds an account at the end.
+    pub(crate) fn add(&mut self, account: Account) -> Result<(), AllocError>
+        requires fits { IsAccount account }
+        requires fresh { NoneHas self.old account.rid }
+        ensures { OnOk result (self.new ≡ self.old ++ account ∷ []) }
+    {
+        self.accounts.push(account)?;
+        Ok(())
+    }
+
+    /// The account lines in their order, each with its line feed, with the keys in lower case.
+    ///
+    /// [`parse_accounts`](crate::parse_accounts) reads the same list from it, where it isn't too long to be
+    /// read. [`NoMemory`] comes only for want of memory.
+    pub fn print(&self, alloc: Global) -> Result<Vec<u8>, NoMemory>
+        ensures lines { IfOk result (λ text. text.items ≡ printed self.now) }
+        ensures read_again { IfOk result (λ text. IsAnswer (lines text.items) (Ok self.now)) }
+    {
+        print_accounts(alloc, &self.accounts).map_err(|_| NoMemory)
+    }
+}
+
+/// The accounts of the book, searched from the front.
+impl Keys for Book {
+    ghost accounts = { λ book. book };
+
+    fn find(&self, rid: u32) -> Option<Account> {
+        first_with(&self.accounts, rid)
+    }
+}
+
+/// The first account with this number.
+fn first_with(accounts: &[Account], rid: u32) -> Option<Account>
+    ensures { result ≡ account_of accounts.now rid }
+{
+    accounts.iter().copied().find(|account| account.rid == rid)
+}
