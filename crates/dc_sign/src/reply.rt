@@ -1,5 +1,5 @@
 //! The reply to a request, or why there is none.
-ghost use Rattle.std.specs.Prelude.{◌≡◌, List, ℕ};
+ghost use Rattle.std.specs.Prelude.{◌≡◌, ℕ, List, OnOk};
 ghost use Rattle.base_specs.specs.Time.{IsReading};
 ghost use Rattle.ms_auth.specs.Digest.{SpellsSigned};
 ghost use Rattle.ms_auth.specs.Packet.{IsShort};
@@ -42,7 +42,8 @@ pub fn answer<K: Keys>(keys: &K, info: &ServerInfo, bytes: &[u8], t2: i64, t3: i
 
 /// The key that a request asks for, or why it is refused.
 fn key_for<K: Keys>(keys: &K, request: &Packet) -> Result<[u8; 16], Refusal>
-    ensures { Decides (K.accounts keys.now) request.now result }
+    ensures decides { Decides (K.accounts keys.now) request.now result }
+    ensures short { OnOk result (IsShort request.now.tail) }
 {
     let Tail::Short68 { key_id, .. } = request.tail else {
         return Err(Refusal::BadLength);
