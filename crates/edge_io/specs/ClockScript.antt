@@ -41,6 +41,10 @@ with_move room made None = None
 with_move room made (Some told) =
     if nat_lt (length told.moves) room then Some (record told { moves = told.moves ++ made ∷ [] }) else None
 
+-- what a move leaves
+abbrev pub clock_moved : Move → ClockScript → ClockScript
+clock_moved made s = record s { told = with_move s.room made s.told }
+
 -- the moves that are told
 abbrev pub moves_of : Option ClockTold → List Move
 moves_of None = []

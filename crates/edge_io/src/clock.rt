@@ -1,7 +1,7 @@
 //! Readings from memory.
 ghost use Rattle.std.specs.Prelude.{◌≡◌, ◌<◌, [], ◌∷◌, All, IfOk, IfSome, Some, length};
 ghost use Rattle.base_specs.specs.Time.{IsReading};
-ghost use Rattle.edge_io.specs.ClockScript.{clock_after, moves_of, now_answer, with_move};
+ghost use Rattle.edge_io.specs.ClockScript.{clock_after, clock_moved, moves_of, now_answer};
 ghost use Rattle.edge_traits.specs.Clock.{MadeMoves, ReadingCounts, Reads};
 
 use crate::NoMemory;
@@ -34,7 +34,9 @@ impl Model for ScriptClock {
 
     ghost view = { λ c. record {
       coming = drop c.given c.readings.items;
-      told = if c.is_telling then Some (record { readings = take c.given c.readings.items; moves = c.moves.items }) else None;
+      told = if c.is_telling
+          then Some (record { readings = take c.given c.readings.items; moves = c.moves.items })
+          else None;
       room = c.room;
       fails = c.calls.fails.items;
       calls = c.calls.made;
@@ -48,7 +50,8 @@ impl Model for ScriptClock {
 }
 
 impl ScriptClock {
-    /// A clock that gives these readings, with room to tell so many moves, whose readings of the numbers in `fails` fail.
+    /// A clock that gives these readings, with room to tell so many moves, whose calls of `now` of the numbers in
+    /// `fails` fail.
     ///
     /// It takes the memory of its room, and answers NoMemory where that can't be had.
     pub fn new(
@@ -66,7 +69,8 @@ impl ScriptClock {
           calls = 0;
           faults = 0;
         }) }
-        ensures told { IfOk result (λ c. ⟦<ScriptClock as Clock>⟧.told c ≡ Some (record { readings = []; moves = [] })) }
+        ensures told { IfOk result
+            (λ c. ⟦<ScriptClock as Clock>⟧.told c ≡ Some (record { readings = []; moves = [] })) }
         ensures faults { IfOk result (λ c. ⟦<ScriptClock as Clock>⟧.faults c ≡ 0) }
     {
         let Ok(moves) = Vec::with_capacity(alloc, room) else {
@@ -96,7 +100,7 @@ impl ScriptClock {
 
     /// Tells a move, or nothing from now on.
     fn keep(&mut self, made: Move)
-        ensures { self.new ≡ record self.old { told = with_move self.old.room made self.old.told } }
+        ensures { self.new ≡ clock_moved made self.old }
     {
         if self.moves.len() >= self.room || self.moves.push(made).is_err() {
             self.is_telling = false;
@@ -127,7 +131,7 @@ impl Clock for ScriptClock {
     fn step(&mut self, amount: i64)
         ensures moves { MadeMoves self.old.told self.new.told (Move.Step amount ∷ []) }
         ensures cause { self.new.faults ≡ self.old.faults }
-        ensures script { self.new ≡ record self.old { told = with_move self.old.room (Move.Step amount) self.old.told } }
+        ensures script { self.new ≡ clock_moved (Move.Step amount) self.old }
     {
         self.keep(Move::Step(amount));
     }
@@ -135,7 +139,7 @@ impl Clock for ScriptClock {
     fn slew(&mut self, amount: i64)
         ensures moves { MadeMoves self.old.told self.new.told (Move.Slew amount ∷ []) }
         ensures cause { self.new.faults ≡ self.old.faults }
-        ensures script { self.new ≡ record self.old { told = with_move self.old.room (Move.Slew amount) self.old.told } }
+        ensures script { self.new ≡ clock_moved (Move.Slew amount) self.old }
     {
         self.keep(Move::Slew(amount));
     }

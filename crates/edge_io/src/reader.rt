@@ -49,7 +49,8 @@ impl<R: Read> Source for ReaderSource<R> {
         requires { 0 < length buf.old }
         ensures bytes { Gives result buf.new None None }
         ensures cause { TakeCounts result self.old.faults self.new.faults }
-        ensures content { ReadsOn result buf.new (R.remaining self.old.inner) (R.remaining self.new.inner) }
+        ensures content { ReadsOn result buf.new
+            (R.remaining self.old.inner) (R.remaining self.new.inner) }
     {
         match read_again(&mut self.reader, buf) {
             Ok(0) => Take::End,

@@ -49,7 +49,8 @@ impl<W: Write> Sink for WriterSink<W> {
         requires { 0 < length piece.now }
         ensures bytes { Writes result piece.now None None }
         ensures cause { PutCounts result self.old.faults self.new.faults }
-        ensures content { WritesOn result piece.now (W.contents self.old.inner) (W.contents self.new.inner) }
+        ensures content { WritesOn result piece.now
+            (W.contents self.old.inner) (W.contents self.new.inner) }
     {
         if write_whole(&mut self.writer, piece) {
             Put::Done
