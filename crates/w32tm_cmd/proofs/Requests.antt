@@ -1,5 +1,5 @@
 -- A request that was taken, and what is answered to it.
-use Rattle.std.proofs.Common.{◌≡◌, ◌<◌, ◌≤◌, ◌⊎◌, ℕ, ℤ, List, [], ◌∷◌, length, take, Option, Some, None, inl, inr, sym, subst, arith}
+use Rattle.std.proofs.Common.{◌≡◌, ◌<◌, ◌⊎◌, ℕ, ℤ, List, [], ◌∷◌, length, take, inl, inr, subst, arith}
 use Rattle.std.proofs.lemmas.List.{length-take}
 use Rattle.edge_traits.specs.Clock.{GaveReadings}
 use Rattle.edge_traits.specs.Fill.{Fills}
@@ -12,7 +12,7 @@ use Rattle.dc_sign.specs.Info.{IsLocalInfo}
 use Rattle.dc_sign.specs.Reply.{Answers}
 use Rattle.dc_sign.proofs.Replies.{reply_some}
 use Rattle.w32tm_cmd.specs.Seen.{Seen, ReadsInput}
-use Rattle.w32tm_cmd.specs.Sign.{request_limit, TakesRequest, Prepares}
+use Rattle.w32tm_cmd.specs.Sign.{request_limit, Prepares}
 
 -- what fills a buffer is the input up to the buffer's length
 pub reads_input : (limit : ℕ) (before now : Seen) (buf : List ℕ) (n : ℕ) → length buf ≡ limit → Fills (Bytes n) buf before.left now.left → now.read_faults ≡ before.read_faults → ReadsInput limit before now (take n buf)

@@ -8,7 +8,7 @@ use Rattle.key_book.specs.declared.account.Account.{Account}
 use Rattle.dc_sign.specs.declared.outcome.Refusal.{Refusal}
 use Rattle.dc_sign.specs.Reply.{refusal_of}
 use Rattle.dc_sign.proofs.Replies.{too_long}
-use Rattle.w32tm_cmd.specs.Seen.{Seen, ReadsInput, HasNoFault, NeverFalls}
+use Rattle.w32tm_cmd.specs.Seen.{Seen, ReadsInput, HasNoFault}
 use Rattle.w32tm_cmd.specs.Sign.{request_limit, Signs, DecidesBy, IsSignAnswer}
 use Rattle.w32tm_cmd.specs.declared.status.Status.{Status}
 use Rattle.w32tm_cmd.specs.declared.status.Status.TheVariants.{Done, BadWords, ReadFault, WriteFault, ClockFault, BadRequest}
@@ -76,32 +76,3 @@ completes_refused account bytes reason before now ClockFault none refused signs 
 completes_refused account bytes reason before now (BadRequest other) none refused signs decides =
     let same : Some other ≡ Some reason = sym decides ∙ refused in
     cc same
-
--- no count falls in any run
-pub never_falls : (account : Account) (before now : Seen) (status : Status) → Signs account before now status → NeverFalls before now
-never_falls account before now Done signs = record {
-  read = omega (arith, signs.prepared.takes.read.no_fault);
-  write = omega (arith, signs.no_fault);
-  clock = omega (arith, signs.prepared.takes.no_clock_fault);
-}
-never_falls account before now BadWords signs = absurd signs
-never_falls account before now ReadFault signs = record {
-  read = signs.cause.later;
-  write = omega (arith, signs.out.no_fault);
-  clock = omega (arith, signs.clock.no_fault);
-}
-never_falls account before now WriteFault signs = record {
-  read = omega (arith, signs.prepared.takes.read.no_fault);
-  write = signs.cause.later;
-  clock = omega (arith, signs.prepared.takes.no_clock_fault);
-}
-never_falls account before now ClockFault signs = record {
-  read = omega (arith, signs.read.no_fault);
-  write = omega (arith, signs.out.no_fault);
-  clock = signs.cause.later;
-}
-never_falls account before now (BadRequest reason) signs = record {
-  read = omega (arith, signs.takes.read.no_fault);
-  write = omega (arith, signs.out.no_fault);
-  clock = omega (arith, signs.takes.no_clock_fault);
-}

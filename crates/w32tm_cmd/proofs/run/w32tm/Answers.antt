@@ -1,7 +1,5 @@
 use Rattle.std.proofs.Common.{◌≡◌, refl}
-use Rattle.key_book.specs.declared.account.Account.{Account}
-use Rattle.w32tm_cmd.specs.Words.{IsSign}
-use Rattle.w32tm_cmd.proofs.Signing.{decides_by, sign_answer, completes, completes_refused, never_falls}
+use Rattle.w32tm_cmd.proofs.Signing.{decides_by, sign_answer, completes, completes_refused}
 use Rattle.w32tm_cmd.proofs.run.w32tm.Goals as goal
 
 -- words that spell a command are read

@@ -1,4 +1,4 @@
-use Rattle.std.proofs.Common.{◌≡◌, ◌∙◌, ap, decimal, Some}
+use Rattle.std.proofs.Common.{◌∙◌, ap, decimal}
 use Rattle.hex.specs.Hex.{decode_of}
 use Rattle.text_grammar.proofs.Decimals.{no_colon}
 use Rattle.w32tm_cmd.proofs.Spelling.{account_is, fits_64}
