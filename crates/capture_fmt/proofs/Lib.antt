@@ -1,0 +1,7 @@
+mod Fields
+mod Records
+mod Growing
+mod Reading
+mod Runs
+pub mod OneRecord
+pub mod Histories

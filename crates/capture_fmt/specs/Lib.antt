@@ -1,0 +1,5 @@
+pub mod Event
+pub mod Record
+pub mod Capture
+pub mod Reader
+pub mod Gather
