@@ -3,8 +3,27 @@
 -- The lines are those of `lines` of std: a line feed ends a line, one carriage return just before it is
 -- dropped, an empty rest behind the last line feed is no line, and a last line without a line feed keeps what
 -- it ends with. Lines are numbered from 1.
-use Rattle.std.specs.Prelude.{◌≡◌, ◌+◌, ◌==◌, ℕ, Bool, true, List, [], ◌∷◌, ◌++◌, length, filter, Any, AllPairs}
+use Rattle.std.specs.Prelude.{◌≡◌, ◌⊎◌, ◌+◌, ◌==◌, ℕ, Bool, true, List, [], ◌∷◌, ◌++◌, length, filter, Any, AllPairs}
 use Rattle.std.specs.List.{AllZip}
+use Rattle.std.specs.Str.Lines.{strip_carriage_return}
+use Rattle.text_grammar.specs.Bytes.{HasNo}
+
+-- what stands before the first line feed, and what stands behind it
+pub record EndsLine (text line rest : List ℕ) : Type 0 where
+  pub raw : List ℕ
+  pub first : HasNo 10 raw
+  pub parts : text ≡ raw ++ 10 ∷ rest
+  pub line_is : line ≡ strip_carriage_return raw
+
+-- a last line without a line feed, behind which nothing stands
+pub record IsLastLine (text line rest : List ℕ) : Type 0 where
+  pub none : HasNo 10 text
+  pub line_is : line ≡ text
+  pub rest_is : rest ≡ []
+
+-- the first line of a text and what stands behind its line feed
+abbrev pub FirstLine : List ℕ → List ℕ → List ℕ → Type 0
+FirstLine text line rest = EndsLine text line rest ⊎ IsLastLine text line rest
 
 -- a line that says nothing, whatever stands in it: an empty one, and one that begins with `#`
 abbrev pub is_skipped : List ℕ → Bool

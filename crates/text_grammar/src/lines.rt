@@ -2,10 +2,11 @@
 ghost use Rattle.std.specs.Prelude.{◌≡◌, ◌+◌, ◌<◌, ◌≤◌, ◌∷◌, ◌++◌, ◌↔◌, ℕ, List, [], length, take, drop, IfSome, IsNone, IfNone, IsSomeAnd};
 ghost use Rattle.std.specs.Str.Lines.{lines, strip_carriage_return};
 ghost use Rattle.text_grammar.specs.Bytes.{HasNo};
-ghost use Rattle.text_grammar.specs.Lines.{is_skipped};
+ghost use Rattle.text_grammar.specs.Lines.{FirstLine, is_skipped};
 
 /// The first line of the text and what stands behind its line feed. None where there is no line.
 pub fn next_line(text: &[u8]) -> Option<(&[u8], &[u8])>
+    ensures first { IfSome result (λ p. FirstLine text.now p.0.now p.1.now) }
     ensures line { IfSome result (λ p. lines text.now ≡ p.0.now ∷ lines p.1.now) }
     ensures shorter { IfSome result (λ p. length p.1.now < length text.now) }
     ensures none { IsNone result ↔ (text.now ≡ []) }
