@@ -54,8 +54,8 @@ impl Book {
 
     /// The account lines in their order, each with its line feed, with the keys in lower case.
     ///
-    /// [`parse_accounts`](crate::parse_accounts) reads the same list from it, where it isn't too long to be
-    /// read. [`NoMemory`] comes only for want of memory.
+    /// [`parse_accounts`](crate::parse_accounts) reads the same list from it, where it has at most 16,777,216
+    /// bytes. [`NoMemory`] comes for want of memory.
     pub fn print(&self, alloc: Global) -> Result<Vec<u8>, NoMemory>
         ensures lines { IfOk result (λ text. text.items ≡ printed self.now) }
         ensures read_again { IfOk result (λ text. IsAnswer (lines text.items) (Ok self.now)) }

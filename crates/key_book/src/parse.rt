@@ -17,9 +17,10 @@ use text_grammar::next_line;
 /// 4,294,967,295, which no earlier account line has, and a key is 32 hexadecimal digits in either case. A
 /// line ends with a line feed, and a carriage return just before it is dropped. Lines are counted from 1.
 ///
-/// The first account line that is bad decides: [`BookFault::BadLine`] where it has another form,
-/// [`BookFault::TwiceRid`] where its RID stands on an earlier account line. [`BookFault::NoMemory`] may come
-/// instead of every answer.
+/// The first account line that is bad decides: [`BookFault::BadLine`] where it has another form, also where its
+/// RID stood before, and [`BookFault::TwiceRid`] where it has this form and its RID stands on an earlier account
+/// line. [`BookFault::NoMemory`] may come instead of every answer. The text has at most 16,777,217 bytes, and
+/// no rule on its length makes a line bad.
 pub fn parse_accounts(alloc: Global, text: &[u8]) -> Result<Book, BookFault>
     requires { length text.now ≤ 16777217 }
     // What is answered is true of the text.

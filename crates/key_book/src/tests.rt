@@ -1,6 +1,7 @@
 //! Texts of accounts, and what is found in a book.
 use crate::{Account, BookFault, Keys, parse_accounts};
 use std::alloc::Global;
+use std::process::Abort;
 use std::test::Fail;
 
 /// The text of the book, or why there is none.
@@ -24,12 +25,8 @@ fn accounts_read_and_printed(rt: HostRuntime) -> Result<(), Fail> {
     assert_eq!(rt; text.as_slice(), lower.as_slice());
     let again = printed(rt.alloc(), &text)?.map_err(|_| "a book")?;
     assert_eq!(rt; again.as_slice(), lower.as_slice());
-    Ok(())
-}
 
-#[test]
-fn first_bad_lines(rt: HostRuntime) -> Result<(), Fail> {
-    let table: [(&[u8], BookFault); 26] = [
+    let table: [(&[u8], BookFault); 3] = [
         (
             b"account 5 00000000000000000000000000000000\naccount 7 00000000000000000000000000000000 11111111111111111111111111111111\naccount 5 11111111111111111111111111111111\n",
             BookFault::TwiceRid(3),
@@ -39,15 +36,37 @@ fn first_bad_lines(rt: HostRuntime) -> Result<(), Fail> {
             BookFault::BadLine(1),
         ),
         (
+            b"account 5 0000000000000000000000000000000",
+            BookFault::BadLine(1),
+        ),
+    ];
+    expect_faults(&rt, &table)
+}
+
+/// Each text gives this fault.
+fn expect_faults<R: Abort + AllocGlobal>(rt: &R, table: &[(&[u8], BookFault)]) -> Result<(), Fail> {
+    for (text, want) in table {
+        match printed(rt.alloc(), text)? {
+            Ok(_) => assert!(rt; false, "a book at {text:?}"),
+            Err(fault) => assert_eq!(rt; fault, *want, "at {text:?}"),
+        }
+    }
+    Ok(())
+}
+
+#[test]
+fn first_bad_lines(rt: HostRuntime) -> Result<(), Fail> {
+    let table: [(&[u8], BookFault); 24] = [
+        (
+            b"account 5 0000000000000000000000000000000\x00",
+            BookFault::BadLine(1),
+        ),
+        (
             b"account 4294967296 00000000000000000000000000000000",
             BookFault::BadLine(1),
         ),
         (
             b"account +5 00000000000000000000000000000000",
-            BookFault::BadLine(1),
-        ),
-        (
-            b"account 5 0000000000000000000000000000000",
             BookFault::BadLine(1),
         ),
         (
@@ -123,13 +142,7 @@ fn first_bad_lines(rt: HostRuntime) -> Result<(), Fail> {
             BookFault::BadLine(2),
         ),
     ];
-    for (text, want) in table {
-        match printed(rt.alloc(), text)? {
-            Ok(_) => assert!(rt; false, "a book at {text:?}"),
-            Err(fault) => assert_eq!(rt; fault, want, "at {text:?}"),
-        }
-    }
-    Ok(())
+    expect_faults(&rt, &table)
 }
 
 #[test]
@@ -138,7 +151,7 @@ fn books_read_again(rt: HostRuntime) -> Result<(), Fail> {
         (b"", b""),
         (b"\n", b""),
         (
-            b"# account 5\naccounts\naccount\n account 5\nAccount 5\ncomputer x\n\xFF\xFE\r\n",
+            b"# account 5\naccounts\naccount\naccount\t5 0\n account 5\nAccount 5\ncomputer x\n\xFF\xFE\r\n",
             b"",
         ),
         (
@@ -163,21 +176,52 @@ fn books_read_again(rt: HostRuntime) -> Result<(), Fail> {
     Ok(())
 }
 
-/// The line, filled up with number signs to so many bytes.
+/// A comment that is filled up, and the line behind it, which ends with this many bytes.
 fn filled_up(alloc: Global, line: &[u8], len: usize) -> Result<Vec<u8>, Fail> {
-    let mut text = line.to_vec(alloc)?;
-    for _ in line.len()..len {
+    let mut text = Vec::new(alloc);
+    for _ in line.len()..len.saturating_sub(1) {
         text.push(b'#')?;
     }
+    text.push(b'\n')?;
+    text.extend_from_slice(line)?;
     Ok(text)
 }
 
 #[test]
 fn longest_text(rt: HostRuntime) -> Result<(), Fail> {
-    let line = b"account 5 00000000000000000000000000000000\n";
-    let text = filled_up(rt.alloc(), line, 16_777_217)?;
+    let good = b"account 5 00000000000000000000000000000000";
+    let text = filled_up(rt.alloc(), good, 16_777_217)?;
+    assert_eq!(rt; text.len(), 16_777_217);
     let book = printed(rt.alloc(), &text)?.map_err(|_| "a book")?;
-    assert_eq!(rt; book.as_slice(), line.as_slice());
+    assert_eq!(rt;
+        book.as_slice(),
+        b"account 5 00000000000000000000000000000000\n".as_slice()
+    );
+
+    let bad = b"account 5 0000000000000000000000000000000g";
+    let text = filled_up(rt.alloc(), bad, 16_777_217)?;
+    assert_eq!(rt;
+        printed(rt.alloc(), &text)?.err(),
+        Some(BookFault::BadLine(2))
+    );
+    Ok(())
+}
+
+#[test]
+fn many_accounts(rt: HostRuntime) -> Result<(), Fail> {
+    let alloc = rt.alloc();
+    let mut text = String::new(alloc);
+    for rid in 0..1_000 {
+        let line = format!(in alloc; "account {rid} 00000000000000000000000000000000\n")?;
+        text.push_str(&line)?;
+    }
+    let book = printed(alloc, text.as_bytes())?.map_err(|_| "a book")?;
+    assert_eq!(rt; book.as_slice(), text.as_bytes());
+    text.push_str("account 999 11111111111111111111111111111111")?;
+    assert_eq!(rt;
+        printed(alloc, text.as_bytes())?.err(),
+        Some(BookFault::TwiceRid(1_001))
+    );
     Ok(())
 }
 
@@ -211,5 +255,18 @@ fn found_and_missing(rt: HostRuntime) -> Result<(), Fail> {
     for (rid, want) in table {
         assert_eq!(rt; book.find(rid), want, "at {rid}");
     }
+
+    // One account by itself.
+    let alone = Account {
+        rid: 7,
+        current: [0x11; 16],
+        previous: None,
+    };
+    assert_eq!(rt; alone.find(7), Some(alone));
+    assert_eq!(rt; alone.find(5), None);
+    assert_eq!(rt; alone.key(false), Some([0x11; 16]));
+    assert_eq!(rt; alone.key(true), None);
+    let found = book.find(7).ok_or("an account")?;
+    assert_eq!(rt; found.key(true), Some([0x22; 16]));
     Ok(())
 }
