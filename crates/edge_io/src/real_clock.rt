@@ -149,14 +149,16 @@ mod tests {
         assert_eq!(rt; clock.now(), Reading::At(EPOCH));
         clock.step(-7);
         assert_eq!(rt; clock.now(), Reading::At(EPOCH - 7));
+        // The slew begins when it is asked for, and not when the clock was read before.
+        clock.rt.since_1970 = Some(Duration::from_micros(1_000));
         clock.slew(3);
         // Microseconds that the machine's clock reads, and the reading.
         for (micros, reading) in [
-            (0, -7),
-            (199, 1_983),
-            (200, 1_994),
-            (1_000, 9_996),
-            (400, 3_996),
+            (1_000, 9_993),
+            (1_199, 11_983),
+            (1_200, 11_994),
+            (2_000, 19_996),
+            (1_400, 13_996),
         ] {
             clock.rt.since_1970 = Some(Duration::from_micros(micros));
             assert_eq!(rt; clock.now(), Reading::At(EPOCH + reading), "at {micros}");

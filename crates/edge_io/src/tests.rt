@@ -241,6 +241,7 @@ impl<'a> Write for Peer<'a> {
     }
 
     fn flush(&mut self) -> io::Result<()> {
+        self.turn()?;
         Ok(())
     }
 }
@@ -258,8 +259,24 @@ fn signals_are_no_faults(rt: HostRuntime) {
     ];
     let mut source = ReaderSource::new(Peer { turns: &turns });
     wants_reads(&rt, &mut source, &["x", "!", "x", "."]);
+
+    let turns = [
+        // The first byte is taken, and then flushed.
+        Turn::Signal,
+        Turn::Signal,
+        Turn::Byte,
+        Turn::Signal,
+        Turn::Nothing,
+        Turn::Broken,
+        Turn::Signal,
+        Turn::Byte,
+        Turn::Nothing,
+        Turn::Byte,
+        Turn::Broken,
+    ];
     let mut sink = WriterSink::new(Peer { turns: &turns });
     assert_eq!(rt; sink.write(b"a"), Put::Done);
     assert_eq!(rt; sink.write(b"a"), Put::Failed);
     assert_eq!(rt; sink.write(b"ab"), Put::Failed, "nothing was taken of b");
+    assert_eq!(rt; sink.write(b"a"), Put::Failed, "it could not be flushed");
 }
