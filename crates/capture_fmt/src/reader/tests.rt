@@ -67,6 +67,7 @@ fn in_pieces(bytes: &[u8], size: usize, fails: usize) -> Pieces<'_> {
 struct Kept {
     bytes: ArrayVec<u8, 300>,
     fails: bool,
+    calls: u64,
     faults: u64,
 }
 
@@ -78,6 +79,7 @@ impl Sink for Kept {
     ghost faults = { λ s. s.faults };
 
     fn write(&mut self, piece: &[u8]) -> Put {
+        self.calls = self.calls.saturating_add(1);
         if self.fails || self.bytes.try_extend_from_slice(piece).is_err() {
             self.faults = self.faults.saturating_add(1);
             return Put::Failed;
@@ -86,7 +88,7 @@ impl Sink for Kept {
     }
 }
 
-/// The kind of an event, its numbers, and the bytes of its datagram.
+/// The kind of an event, its numbers, and the length of its datagram.
 fn fields(event: &Event) -> (u8, i64, u32, u32, usize) {
     match event {
         Event::Life { now, mark } => (1, *now, *mark, 0, 0),
@@ -102,17 +104,31 @@ fn fields(event: &Event) -> (u8, i64, u32, u32, usize) {
     }
 }
 
-/// How many events are read, and how they end.
-fn read_all<S: Source>(source: &mut S) -> (usize, Option<CaptureFault>) {
+/// The datagram of an arrival.
+fn datagram_of(event: &Event) -> &[u8] {
+    match event {
+        Event::Arrive { bytes, .. } => bytes.as_slice(),
+        _ => &[],
+    }
+}
+
+/// How many events are read, and how they end. Only a fault leaves the reader dead.
+fn read_all<S: Source>(rt: &impl Abort, source: &mut S) -> (usize, Option<CaptureFault>) {
     let mut reader = EventReader::new();
     for count in 0..100 {
         if !reader.alive() {
             return (count, None);
         }
         match reader.next(source) {
-            Ok(Some(_)) => {}
-            Ok(None) => return (count, None),
-            Err(fault) => return (count, Some(fault)),
+            Ok(Some(_)) => assert!(rt; reader.alive()),
+            Ok(None) => {
+                assert!(rt; reader.alive());
+                return (count, None);
+            }
+            Err(fault) => {
+                assert!(rt; !reader.alive());
+                return (count, Some(fault));
+            }
         }
     }
     (100, None)
@@ -125,15 +141,17 @@ fn check_both_ways(rt: &impl Abort, event: &Event, record: &[u8], want: (u8, i64
     let mut sink = Kept {
         bytes: ArrayVec::new(),
         fails: false,
+        calls: 0,
         faults: 0,
     };
     assert_eq!(rt; write_event(event, &mut sink), Put::Done);
     assert_eq!(rt; sink.bytes.as_slice(), record);
+    assert_eq!(rt; sink.calls, 1, "one write of the whole record");
 
     let mut source = in_pieces(record, 300, 0);
     let read = EventReader::new().next(&mut source);
     assert!(rt;
-        matches!(&read, Ok(Some(event)) if fields(event) == want),
+        matches!(&read, Ok(Some(read)) if fields(read) == want && datagram_of(read) == datagram_of(event)),
         "a record of kind {}",
         want.0
     );
@@ -194,6 +212,41 @@ fn each_kind_at_its_least_and_greatest(rt: HostRuntime) {
         b"\x03\x37\x82\xDA\xCE\x9D\x90\0\0\0\0\0\x01\xFF\xFF\xFF\xFF",
         (3, last, 1, u32::MAX, 0),
     );
+    let resync = Event::Resync {
+        now: last,
+        word: u32::MAX,
+        flags: u32::MAX,
+    };
+    check_both_ways(
+        &rt,
+        &resync,
+        b"\x03\x37\x82\xDA\xCE\x9D\x90\0\0\xFF\xFF\xFF\xFF\xFF\xFF\xFF\xFF",
+        (3, last, u32::MAX, u32::MAX, 0),
+    );
+}
+
+#[test]
+fn events_in_order(rt: HostRuntime) {
+    let start = 132_223_104_000_000_000;
+    let mut reader = EventReader::new();
+    let mut source = in_pieces(CAPTURE, 7, 0);
+    for (want, place) in [
+        ((1, start, 0, 0, 0), 17),
+        ((2, start, 0x5E88_8116, 0, 0), 30),
+        ((3, start + 1, 7, 4, 0), 47),
+        ((4, start + 2, 0x0A00_0001, 123, 2), 66),
+    ] {
+        assert!(rt; reader.alive());
+        let read = reader.next(&mut source);
+        assert!(rt;
+            matches!(&read, Ok(Some(event)) if fields(event) == want),
+            "before {place}"
+        );
+        assert_eq!(rt; reader.place(), place);
+    }
+    assert!(rt; reader.alive());
+    assert!(rt; matches!(reader.next(&mut source), Ok(None)));
+    assert_eq!(rt; reader.place(), 66);
 }
 
 #[test]
@@ -216,14 +269,25 @@ fn datagrams_of_no_byte_and_of_256(rt: HostRuntime) {
         port: u16::MAX,
     };
     let last = 4_000_000_000_000_000_000;
+    let mut counted: ArrayVec<u8, 256> = ArrayVec::new();
+    for value in 0..=u8::MAX {
+        assert!(rt; counted.try_push(value).is_ok());
+    }
     let full = Event::Arrive {
         now: last,
         from: everybody,
-        bytes: Datagram::from_slice(&[7; 256]),
+        bytes: Datagram::from_slice(counted.as_slice()),
     };
-    let mut record = [7; 273];
-    record[..17].copy_from_slice(b"\x04\x37\x82\xDA\xCE\x9D\x90\0\0\xFF\xFF\xFF\xFF\xFF\xFF\x01\0");
-    check_both_ways(&rt, &full, &record, (4, last, u32::MAX, 65_535, 256));
+    let mut record: ArrayVec<u8, 300> = ArrayVec::new();
+    let head = b"\x04\x37\x82\xDA\xCE\x9D\x90\0\0\xFF\xFF\xFF\xFF\xFF\xFF\x01\0";
+    assert!(rt; record.try_extend_from_slice(head).is_ok());
+    assert!(rt; record.try_extend_from_slice(counted.as_slice()).is_ok());
+    check_both_ways(
+        &rt,
+        &full,
+        record.as_slice(),
+        (4, last, u32::MAX, 65_535, 256),
+    );
 }
 
 #[test]
@@ -242,7 +306,7 @@ fn cut_at_each_byte_in_pieces_of_each_size(rt: HostRuntime) {
         };
         for size in [1, 7, 66] {
             assert_eq!(rt;
-                read_all(&mut in_pieces(&CAPTURE[..cut], size, 0)),
+                read_all(&rt, &mut in_pieces(&CAPTURE[..cut], size, 0)),
                 want,
                 "{cut} bytes in pieces of {size}"
             );
@@ -252,7 +316,7 @@ fn cut_at_each_byte_in_pieces_of_each_size(rt: HostRuntime) {
 
 #[test]
 fn first_fault_of_each_field(rt: HostRuntime) {
-    let faults: [(&[u8], CaptureFault); 19] = [
+    let faults: [(&[u8], CaptureFault); 21] = [
         (b"\x00", CaptureFault::BadKind(13)),
         (b"\x05", CaptureFault::BadKind(13)),
         (b"\x06", CaptureFault::BadKind(13)),
@@ -261,6 +325,15 @@ fn first_fault_of_each_field(rt: HostRuntime) {
         (b"\x01X32", CaptureFault::Torn(13)),
         (b"\x01X32T", CaptureFault::BadKind(13)),
         (b"\x01W32t", CaptureFault::BadKind(13)),
+        // Of two fields that are wrong the first decides.
+        (
+            b"\x01X32T\xFF\xFF\xFF\xFF\xFF\xFF\xFF\xFF",
+            CaptureFault::BadKind(13),
+        ),
+        (
+            b"\x04\xFF\xFF\xFF\xFF\xFF\xFF\xFF\xFF\x0A\0\0\x01\0\x7B\xFF\xFF",
+            CaptureFault::BadReading(13),
+        ),
         (
             b"\x01W32T\x37\x82\xDA\xCE\x9D\x90\0",
             CaptureFault::Torn(13),
@@ -306,7 +379,7 @@ fn first_fault_of_each_field(rt: HostRuntime) {
         assert!(rt; capture.try_extend_from_slice(&records[17..30]).is_ok());
         assert!(rt; capture.try_extend_from_slice(record).is_ok());
         assert_eq!(rt;
-            read_all(&mut in_pieces(capture.as_slice(), 7, 0)),
+            read_all(&rt, &mut in_pieces(capture.as_slice(), 7, 0)),
             (1, Some(fault)),
             "a record {record:?}"
         );
@@ -350,17 +423,19 @@ fn failed_calls(rt: HostRuntime) {
     ] {
         let mut source = in_pieces(CAPTURE, 66, fails);
         assert_eq!(rt;
-            read_all(&mut source),
+            read_all(&rt, &mut source),
             (count, Some(CaptureFault::ReadFault)),
             "call {fails}"
         );
         assert_eq!(rt; source.calls, fails);
+        assert_eq!(rt; source.faults, 1);
     }
-    assert_eq!(rt; read_all(&mut in_pieces(CAPTURE, 66, 68)), (4, None));
+    assert_eq!(rt; read_all(&rt, &mut in_pieces(CAPTURE, 66, 68)), (4, None));
 
     let mut sink = Kept {
         bytes: ArrayVec::new(),
         fails: true,
+        calls: 0,
         faults: 0,
     };
     assert_eq!(rt;
@@ -368,4 +443,5 @@ fn failed_calls(rt: HostRuntime) {
         Put::Failed
     );
     assert_eq!(rt; sink.faults, 1);
+    assert_eq!(rt; sink.calls, 1);
 }
