@@ -1,6 +1,6 @@
 //! The definitions that the contracts of all crates above cite. There is no code here.
 //!
-//! - `specs/Counts.antt`: what a call does to a count of faults.
+//! - `specs/Counts.antt`: what calls that fail do to a count of faults.
 //! - `specs/Told.antt`: what an object tells of what it gave and took, and how that changes.
 //! - `specs/Time.antt`: readings of a clock, and the timestamps of the wire.
 //!

@@ -1,2 +1,4 @@
-mod Fronts
 pub mod Clocks
+mod Fronts
+pub mod Links
+pub mod Wires

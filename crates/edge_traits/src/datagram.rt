@@ -1,5 +1,5 @@
 //! What is sent, and where to.
-ghost use Rattle.std.specs.Prelude.{◌≡◌, ◌≤◌, length, take};
+ghost use Rattle.std.specs.Prelude.{◌≡◌, ◌<◌, ◌≤◌, All, length, take};
 
 use arrayvec::ArrayVec;
 use std::marker::Model;
@@ -21,13 +21,13 @@ pub struct Datagram {
 }
 
 impl Model for Datagram {
-    ghost use Rattle.std.specs.Prelude.{ℕ, List, ◌≤◌, length};
+    ghost use Rattle.std.specs.Prelude.{ℕ, List, ◌<◌, ◌≤◌, All, length};
 
     ghost Value = { List ℕ };
 
     ghost view = { λ d. d.bytes.items };
 
-    ghost invariant = { λ d. length d.bytes.items ≤ 256 };
+    ghost invariant = { λ d. (length d.bytes.items ≤ 256) × All (λ byte. byte < 256) d.bytes.items };
 }
 
 impl Datagram {
@@ -44,8 +44,16 @@ impl Datagram {
     pub fn as_slice(&self) -> &[u8]
         ensures bytes { result.now ≡ self.now }
         ensures within { length result.now ≤ 256 }
+        ensures below { All (λ byte. byte < 256) result.now }
     {
         self.bytes.as_slice()
+    }
+
+    /// The same bytes once more.
+    pub fn copy(&self) -> Datagram
+        ensures { result ≡ self.now }
+    {
+        Datagram::from_slice(self.as_slice())
     }
 }
 

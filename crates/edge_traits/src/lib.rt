@@ -1,22 +1,33 @@
 //! The outside as the work sees it: the traits of its devices, what they give, and addresses and datagrams.
 //!
-//! Each trait has a count of the calls that failed: a call answers Failed exactly where its count rose, and
-//! no count falls. Its other ghost member is what the device tells of what it gave and took. An object in
-//! memory tells it. A real file, socket or clock tells nothing, and the contracts above speak of it in the
-//! same words.
+//! - `Source` is read and `Sink` is written, byte by byte; `fill_front` reads a source to its end, or until a buffer is
+//!   full.
+//! - `Link` sends and receives datagrams; `Wire` opens sessions, one after the other, that are read and written.
+//! - `Clock` is read, stepped and slewed; `Entropy` gives random words.
 //!
-//! The layer above may rely on the clauses of the traits alone. `edge_io` hands all of this on, together with
-//! the objects in memory and the devices of the machine. The definitions stand in `specs/`, a file a trait.
+//! Each trait has a count of the calls that failed (`Wire` has two: one for requests and reads, and one for writes):
+//! a call answers Failed exactly where its count rose, and no count falls. Its other ghost member is what the device
+//! tells of what it gave and took. An object in memory tells it. A real file, socket or clock tells nothing, and the
+//! contracts above speak of it in the same words.
+//!
+//! The layer above may rely on the clauses of the traits alone. The objects in memory and the devices of the machine
+//! are those of `edge_io`. The definitions stand in `specs/`, a file a trait; `proofs/` carries them over several calls.
 #![tactic(auto)]
 
 mod clock;
 mod datagram;
+mod entropy;
 mod fill;
+mod link;
 mod sink;
 mod source;
+mod wire;
 
 pub use clock::{Clock, Move, Reading};
 pub use datagram::{Addr, DATAGRAM_LEN, Datagram};
+pub use entropy::{Drawn, Entropy};
 pub use fill::{Filled, fill_front};
+pub use link::{Link, Receipt, Tried};
 pub use sink::{Put, Sink};
 pub use source::{Source, Take};
+pub use wire::{Opened, Wire};
