@@ -1,0 +1,20 @@
+//! Lines of ASCII: texts that are held whole, and texts that are written piece by piece, both without memory.
+//!
+//! A [`Line`] is written from its pieces, which are texts, decimal numbers and bytes in hexadecimal digits. It has a
+//! capacity, and each call that adds a piece asks for the room of it. A [`LineText`] holds a whole line of at most 96
+//! bytes, as the status line or a line of a report.
+//!
+//! It stands on `arrayvec` for the bytes and on `itoa` and `hex` for the digits. The layer above sees both types as
+//! lists of bytes, and may rely on what each call adds to that list, and on every byte being ASCII.
+//!
+//! `specs/Line.antt` says which lists of bytes a line can hold. What a number adds is `itoa`'s word for its text, the
+//! standard library's `decimal` or `signed_decimal`; what bytes add is the `encode_lower` of `hex`.
+#![tactic(auto)]
+
+mod line;
+mod line_text;
+#[cfg(test)]
+mod tests;
+
+pub use line::Line;
+pub use line_text::{LINE_LIMIT, LineText};
