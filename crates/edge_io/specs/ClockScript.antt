@@ -4,7 +4,8 @@ use Rattle.edge_traits.specs.declared.clock.Move.{Move}
 use Rattle.edge_traits.specs.declared.clock.Reading.{Reading}
 use Rattle.edge_traits.specs.declared.clock.Reading.TheVariants as clock
 use Rattle.edge_traits.specs.Clock.{ClockTold}
-use Rattle.edge_io.specs.Calls.{is_listed, next_count}
+use Rattle.base_specs.specs.Counts.{next_count}
+use Rattle.edge_io.specs.Calls.{is_listed}
 
 -- The readings to come, what the clock tells, and how many moves it can tell. Then the numbers of the calls
 -- that fail, the calls made, and those of them that failed: only readings can fail, so only they are counted.

@@ -3,7 +3,7 @@ use Rattle.std.specs.Prelude.{◌≡◌, ◌⊎◌, ℕ, ℤ, pos, ◌+ℤ◌}
 use Rattle.base_specs.specs.Time.{IsReading}
 use Rattle.edge_traits.specs.declared.clock.Reading.{Reading}
 use Rattle.edge_traits.specs.declared.clock.Reading.TheVariants as clock
-use Rattle.edge_io.specs.Calls.{next_count}
+use Rattle.base_specs.specs.Counts.{next_count}
 use Rattle.edge_io.specs.Correction.{Correction, ahead_of, looked_at, slewed_by, stepped_by}
 
 -- its corrections, and how many of its readings failed

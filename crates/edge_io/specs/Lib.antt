@@ -3,12 +3,16 @@ pub mod ClockScript
 pub mod CorrectedClock
 pub mod Correction
 pub mod Held
+pub mod LinkScript
 pub mod SinkScript
 pub mod SourceScript
 pub use Rattle.base_specs.specs.Counts
 pub use Rattle.base_specs.specs.Time
 pub use Rattle.base_specs.specs.Told
 pub use Rattle.edge_traits.specs.Clock
+pub use Rattle.edge_traits.specs.Entropy
 pub use Rattle.edge_traits.specs.Fill
+pub use Rattle.edge_traits.specs.Link
 pub use Rattle.edge_traits.specs.Sink
 pub use Rattle.edge_traits.specs.Source
+pub use Rattle.edge_traits.specs.Wire

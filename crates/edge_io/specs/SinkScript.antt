@@ -2,7 +2,8 @@
 use Rattle.std.specs.Prelude.{ℕ, ◌+◌, ◌||◌, if◌then◌else◌, List, ◌++◌, length, nat_lt}
 use Rattle.edge_traits.specs.declared.sink.Put.{Put}
 use Rattle.edge_traits.specs.declared.sink.Put.TheVariants as write
-use Rattle.edge_io.specs.Calls.{is_listed, next_count}
+use Rattle.base_specs.specs.Counts.{next_count}
+use Rattle.edge_io.specs.Calls.{is_listed}
 
 -- The bytes that were written, and how many there is room for. Then the numbers of the calls that fail, the
 -- calls made, and those of them that failed.

@@ -2,7 +2,8 @@
 use Rattle.std.specs.Prelude.{ℕ, ◌-◌, ◌==◌, min, if◌then◌else◌, List, [], ◌∷◌, ◌++◌, length, take, drop, nat_le}
 use Rattle.edge_traits.specs.declared.source.Take.{Take}
 use Rattle.edge_traits.specs.declared.source.Take.TheVariants as read
-use Rattle.edge_io.specs.Calls.{is_listed, next_count}
+use Rattle.base_specs.specs.Counts.{next_count}
+use Rattle.edge_io.specs.Calls.{is_listed}
 
 -- The bytes that are left, and the sizes of the pieces in which they come: the first is what is left of the
 -- next piece. Then the numbers of the calls that fail, the calls made, and those of them that failed.

@@ -1,6 +1,7 @@
 //! The calls of an object in memory: which of them fail, and how many there were.
-ghost use Rattle.std.specs.Prelude.{◌≡◌};
-ghost use Rattle.edge_io.specs.Calls.{is_listed, next_count};
+ghost use Rattle.std.specs.Prelude.{◌≡◌, if◌then◌else◌};
+ghost use Rattle.base_specs.specs.Counts.{next_count};
+ghost use Rattle.edge_io.specs.Calls.{is_listed};
 
 /// The numbers of the calls that fail, the calls made so far, and those of them that failed.
 #[derive(Drop)]
@@ -18,6 +19,21 @@ impl Calls {
     {
         self.made = self.made.saturating_add(1);
         self.fails.contains(&self.made)
+    }
+
+    /// Counts a call, and a fault where it is one of those that fail, and says whether it is.
+    pub(crate) fn fails_now(&mut self) -> bool
+        ensures listed { result ≡ is_listed self.old.fails.items (next_count self.old.made) }
+        ensures counted { self.new ≡ record self.old {
+          made = next_count self.old.made;
+          faults = if result then next_count self.old.faults else self.old.faults;
+        } }
+    {
+        let is_due = self.begin();
+        if is_due {
+            self.fail();
+        }
+        is_due
     }
 
     /// Counts a fault.

@@ -18,6 +18,7 @@
 mod calls;
 mod clock;
 mod correction;
+mod link;
 mod reader;
 mod real_clock;
 mod sink;
@@ -28,8 +29,10 @@ mod writer;
 
 pub use clock::ScriptClock;
 pub use edge_traits::{
-    Addr, Clock, DATAGRAM_LEN, Datagram, Filled, Move, Put, Reading, Sink, Source, Take, fill_front,
+    Addr, Clock, DATAGRAM_LEN, Datagram, Drawn, Entropy, Filled, Link, Move, Opened, Put, Reading,
+    Receipt, Sink, Source, Take, Tried, Wire, fill_front,
 };
+pub use link::ScriptLink;
 pub use reader::ReaderSource;
 pub use real_clock::RealClock;
 pub use sink::ScriptSink;
