@@ -1,3 +1,4 @@
 pub mod Fields
 pub mod RequestBytes
+pub mod SignedBytes
 pub mod Uniqueness

@@ -13,7 +13,7 @@ use Rattle.ms_auth.specs.Packet.{IsPacketLength, IsTailLength, SpellsPacket, Tai
 use Rattle.ms_auth.specs.Digest.{IsSigned, IsSignedTail, digest_of}
 
 -- bytes in a tail
-pub tail_length : Tail → ℕ
+unfoldable pub tail_length : Tail → ℕ
 tail_length Plain = 0
 tail_length (Short68 key_id sum) = 20
 tail_length (Ext120 rid reserved flags hints hash sum) = 72

@@ -1,17 +1,18 @@
 -- The checksum of a message under an account's key.
-use Rattle.std.specs.Prelude.{◌≡◌, ℕ, List, ◌++◌, Option, Some, None}
-use Rattle.md5.specs.Md5.{md5}
+use Rattle.std.specs.Prelude.{◌≡◌, ℕ, List, Option, Some, None}
+use Rattle.mac_kdf.specs.Digests.{ext_digest, md5_digest}
 use Rattle.ntp_wire.specs.Header.{header_bytes}
 use Rattle.ms_auth.specs.declared.packet.Packet.{Packet}
 use Rattle.ms_auth.specs.declared.packet.Tail.{Tail}
 use Rattle.ms_auth.specs.declared.packet.Tail.TheVariants.{Plain, Short68, Ext120}
 use Rattle.ms_auth.specs.Packet.{packet_bytes}
 
--- the checksum of a header with this tail: MD5 of key and header for a short one, none for a plain one, and none yet for an extended one
+-- the checksum of a header with this tail: MD5 of key and header for a short one, HMAC under the key derived for the
+-- tail's own RID for an extended one, and none for a plain one
 abbrev pub tail_digest : Tail → List ℕ → List ℕ → Option (List ℕ)
 tail_digest Plain key header = None
-tail_digest (Short68 key_id sum) key header = Some (md5 (key ++ header))
-tail_digest (Ext120 rid reserved flags hints hash sum) key header = None
+tail_digest (Short68 key_id sum) key header = Some (md5_digest key header)
+tail_digest (Ext120 rid reserved flags hints hash sum) key header = Some (ext_digest key rid header)
 
 -- the checksum that a message should carry under a key
 abbrev pub digest_of : Packet → List ℕ → Option (List ℕ)

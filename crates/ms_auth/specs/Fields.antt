@@ -1,8 +1,14 @@
--- The fields of a tail, by their places in a message.
-use Rattle.std.specs.Prelude.{◌≡◌, ℕ, ◌%◌, ◌^◌, Bool, nat_le, List, length, slice_index}
+-- The fields of a message by their places in its bytes, and the checksum that the bytes should carry.
+use Rattle.std.specs.Prelude.{◌≡◌, ℕ, ◌%◌, ◌^◌, Bool, nat_le, List, length, slice_index, take, Some}
 use Rattle.byte_codec.specs.Numbers.{low_word_at, part_at}
+use Rattle.mac_kdf.specs.Digests.{ext_digest, md5_digest}
+use Rattle.ntp_wire.specs.Fields.{IsHeaderAt}
+use Rattle.ms_auth.specs.declared.packet.Kind.{Kind}
+use Rattle.ms_auth.specs.declared.packet.Kind.TheVariants.{Short, Extended}
+use Rattle.ms_auth.specs.declared.packet.Packet.{Packet}
 use Rattle.ms_auth.specs.declared.packet.Tail.{Tail}
 use Rattle.ms_auth.specs.declared.packet.Tail.TheVariants.{Plain, Short68, Ext120}
+use Rattle.ms_auth.specs.Digest.{digest_of, sum_of}
 
 -- the key identifier, the least significant byte first; all of it is the RID of an extended message
 abbrev pub key_id_of : List ℕ → ℕ
@@ -51,3 +57,29 @@ abbrev pub IsTailAt : List ℕ → Tail → Type 0
 IsTailAt bytes Plain = length bytes ≡ 48
 IsTailAt bytes (Short68 key_id sum) = (length bytes ≡ 68) × (key_id_of bytes ≡ key_id) × (short_sum_of bytes ≡ sum)
 IsTailAt bytes (Ext120 rid reserved flags hints hash sum) = IsExtendedAt bytes rid reserved flags hints hash sum
+
+-- bytes in a message of each kind
+abbrev pub kind_length : Kind → ℕ
+kind_length Short = 68
+kind_length Extended = 120
+
+-- the checksum that the bytes of a message of a kind carry
+abbrev pub sum_at : Kind → List ℕ → List ℕ
+sum_at Short bytes = short_sum_of bytes
+sum_at Extended bytes = extended_sum_of bytes
+
+-- the checksum that they should carry under a key
+abbrev pub digest_at : Kind → List ℕ → List ℕ → List ℕ
+digest_at Short key bytes = md5_digest key (take 48 bytes)
+digest_at Extended key bytes = ext_digest key (key_id_of bytes) (take 48 bytes)
+
+-- a message whose checksum, and the one that it should carry under each key, are those at their places
+pub record IsChecksumAt (kind : Kind) (bytes : List ℕ) (p : Packet) : Type 0 where
+  pub carried : sum_of p.tail ≡ Some (sum_at kind bytes)
+  pub due : (key : List ℕ) → digest_of p key ≡ Some (digest_at kind key bytes)
+
+-- a message whose fields are those at their places
+pub record IsPacketAt (bytes : List ℕ) (p : Packet) : Type 0 where
+  pub header : IsHeaderAt bytes p.header
+  pub tail : IsTailAt bytes p.tail
+  pub checksum : (kind : Kind) → length bytes ≡ kind_length kind → IsChecksumAt kind bytes p

@@ -47,7 +47,3 @@ IsTailLength n = (n ≡ 0) ⊎ (n ≡ 20) ⊎ (n ≡ 72)
 abbrev pub IsShort : Tail → Type 0
 IsShort (Short68 key_id sum) = ⊤
 IsShort other = ⊥
-
-abbrev pub IsNotExtended : Tail → Type 0
-IsNotExtended (Ext120 rid reserved flags hints hash sum) = ⊥
-IsNotExtended other = ⊤

@@ -2,6 +2,7 @@
 ghost use Rattle.std.specs.Prelude.{◌≡◌, ◌≤◌, ◌+◌, ◌++◌, ◌↔◌, ℕ, List, length, IfOk, OnOk, IsErr, Ok};
 ghost use Rattle.arrayvec.specs.ArrayVec.{array_vec_len};
 ghost use Rattle.ms_auth.specs.declared.packet.Packet.{Packet};
+ghost use Rattle.ms_auth.specs.Fields.{IsPacketAt};
 ghost use Rattle.ms_auth.specs.Packet.{IsPacketLength, IsTailLength, SpellsPacket, SpellsTail, TailFits, packet_bytes, tail_bytes};
 
 use crate::{BadLength, EXTENDED_LEN, Packet, SHORT_LEN, Tail};
@@ -20,6 +21,9 @@ pub fn read_packet(bytes: &[u8]) -> Result<Packet, BadLength>
     ensures read { IfOk result (λ p. SpellsPacket p bytes.now) }
     ensures length { OnOk result (IsPacketLength (length bytes.now)) }
     ensures bad_length { IsErr result ↔ ¬ IsPacketLength (length bytes.now) }
+
+    // Each field of the message stands at its place in the bytes, and so does the checksum that it carries.
+    ensures places { IfOk result (λ p. IsPacketAt bytes.now p) }
 
     // Bytes spell one message, and what was written is read again.
     ensures only { (p q : Packet) → SpellsPacket p bytes.now → SpellsPacket q bytes.now → p ≡ q }

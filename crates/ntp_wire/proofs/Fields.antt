@@ -10,7 +10,7 @@ use Rattle.ntp_wire.specs.declared.header.Header.{Header}
 use Rattle.ntp_wire.specs.declared.stamp.Stamp.{Stamp}
 use Rattle.ntp_wire.specs.Header.{header_bytes, head_bytes, first_byte, SpellsHeader}
 use Rattle.ntp_wire.specs.Stamp.{stamp_bytes, stamp_at, StampFits}
-use Rattle.ntp_wire.specs.Fields.{leap_of, version_of, mode_of, stratum_of, poll_of, reference_of, originate_of, receive_of, transmit_of}
+use Rattle.ntp_wire.specs.Fields.{IsHeaderAt, leap_of, version_of, mode_of, stratum_of, poll_of, reference_of, originate_of, receive_of, transmit_of}
 use Rattle.ntp_wire.proofs.Headers.{front_16, front_24, front_32, front_40, length-front_16, length-front_24, length-front_32, length-front_40, length-header_bytes}
 
 -- what begins with a header is the header and what stands behind it
@@ -111,3 +111,17 @@ receive_is h bytes spells =
 pub transmit_is : (h : Header) (bytes : List ℕ) → SpellsHeader h (take 48 bytes) → transmit_of bytes ≡ h.transmit
 transmit_is h bytes spells =
     ap (stamp_at 40) (header_in_front h bytes spells) ∙ transmit_at h (drop 48 bytes) spells.fits.reference_id spells.fits.transmit
+
+-- the fields of a header stand at their places in what begins with it
+pub header_at : (h : Header) (bytes : List ℕ) → SpellsHeader h (take 48 bytes) → IsHeaderAt bytes h
+header_at h bytes spells = record {
+  leap = leap_is h bytes spells;
+  version = version_is h bytes spells;
+  mode = mode_is h bytes spells;
+  stratum = stratum_is h bytes spells;
+  poll = poll_is h bytes spells;
+  reference = reference_is h bytes spells;
+  originate = originate_is h bytes spells;
+  receive = receive_is h bytes spells;
+  transmit = transmit_is h bytes spells;
+}

@@ -1,6 +1,7 @@
 -- The fields of a header, by their places in its bytes and in those of a message that begins with it.
-use Rattle.std.specs.Prelude.{ℕ, ◌/◌, ◌%◌, ℤ, List, slice_index}
+use Rattle.std.specs.Prelude.{◌≡◌, ℕ, ◌/◌, ◌%◌, ℤ, List, slice_index}
 use Rattle.std.specs.Int.{w8, cast_signed}
+use Rattle.ntp_wire.specs.declared.header.Header.{Header}
 use Rattle.ntp_wire.specs.declared.stamp.Stamp.{Stamp}
 use Rattle.ntp_wire.specs.Stamp.{stamp_at}
 
@@ -30,3 +31,15 @@ receive_of bytes = stamp_at 32 bytes
 
 abbrev pub transmit_of : List ℕ → Stamp
 transmit_of bytes = stamp_at 40 bytes
+
+-- a header whose fields are those at these places
+pub record IsHeaderAt (bytes : List ℕ) (h : Header) : Type 0 where
+  pub leap : leap_of bytes ≡ h.leap
+  pub version : version_of bytes ≡ h.version
+  pub mode : mode_of bytes ≡ h.mode
+  pub stratum : stratum_of bytes ≡ h.stratum
+  pub poll : poll_of bytes ≡ h.poll
+  pub reference : reference_of bytes ≡ h.reference
+  pub originate : originate_of bytes ≡ h.originate
+  pub receive : receive_of bytes ≡ h.receive
+  pub transmit : transmit_of bytes ≡ h.transmit

@@ -3,6 +3,7 @@ ghost use Rattle.std.specs.Prelude.{◌≡◌, ◌+◌, ◌<◌, ◌≤◌, ◌�
 ghost use Rattle.std.specs.Int.{w32, cast_unsigned};
 ghost use Rattle.arrayvec.specs.ArrayVec.{array_vec_len};
 ghost use Rattle.byte_codec.specs.Numbers.{word_bytes};
+ghost use Rattle.ntp_wire.specs.Fields.{IsHeaderAt};
 ghost use Rattle.ntp_wire.specs.Header.{SpellsHeader, head_bytes, header_bytes, HeaderFits};
 ghost use Rattle.ntp_wire.specs.declared.header.Header.{Header};
 ghost use Rattle.ntp_wire.specs.Stamp.{stamp_bytes};
@@ -15,6 +16,9 @@ use byte_codec::{add, add_u32, read_array, read_u32};
 pub fn read_header(bytes: &[u8]) -> Result<Header, HeaderFault>
     ensures read { IfOk result (λ h. SpellsHeader h (take 48 bytes.now)) }
     ensures short { IsErr result ↔ (length bytes.now < 48) }
+
+    // Its fields stand at their places.
+    ensures fields { IfOk result (λ h. IsHeaderAt bytes.now h) }
 
     // 48 bytes spell one header.
     ensures only { (h : Header) → SpellsHeader h (take 48 bytes.now) → result ≡ Ok h }

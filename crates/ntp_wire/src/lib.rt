@@ -6,7 +6,7 @@
 //! reading, so that the timestamp of a moment within 2^31 seconds of it gives that moment back, to the tick.
 //!
 //! `specs/Header.antt` has the spelling of a header, `specs/Stamp.antt` the timestamps, and `specs/Fields.antt` the fields by
-//! their places in a message. `proofs/Fields.antt` ties those places to the header that the bytes spell.
+//! their places in a message, where `read_header` finds them: so a caller may speak of bytes in place of a header.
 #![tactic(auto)]
 
 mod codec;

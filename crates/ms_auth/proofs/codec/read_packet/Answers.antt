@@ -1,6 +1,7 @@
 use Rattle.std.proofs.Common.{◌<◌, Ok, length, ap, arith, rules}
 use Rattle.byte_codec.proofs.Parts.{two_parts}
 use Rattle.ms_auth.specs.Packet.{IsTailLength}
+use Rattle.ms_auth.proofs.Fields.{packet_at}
 use Rattle.ms_auth.proofs.Uniqueness.{one_packet, packet_length, length_of_tail, long_enough}
 use Rattle.ms_auth.proofs.codec.read_packet.Goals as goal
 
@@ -34,3 +35,6 @@ returns-clause-found c p spells = ap Ok (one_packet _ p c.args.bytes.now (return
 
 pub returns-clause-length : goal.returns-clause-length
 returns-clause-length c = packet_length _ c.args.bytes.now (returns-clause-read c)
+
+pub returns-clause-places : goal.returns-clause-places
+returns-clause-places c = packet_at _ c.args.bytes.now (returns-clause-read c)
