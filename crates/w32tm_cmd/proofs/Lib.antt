@@ -1,4 +1,2 @@
-mod Lines
 mod Requests
 mod Signing
-mod Spelling

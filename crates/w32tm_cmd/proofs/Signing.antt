@@ -10,8 +10,8 @@ use Rattle.dc_sign.specs.Reply.{refusal_of}
 use Rattle.dc_sign.proofs.Replies.{too_long}
 use Rattle.w32tm_cmd.specs.Seen.{Seen, ReadsInput, HasNoFault}
 use Rattle.w32tm_cmd.specs.Sign.{request_limit, Signs, DecidesBy, IsSignAnswer}
-use Rattle.w32tm_cmd.specs.declared.status.Status.{Status}
-use Rattle.w32tm_cmd.specs.declared.status.Status.TheVariants.{Done, BadWords, ReadFault, WriteFault, ClockFault, BadRequest}
+use Rattle.w32tm_text.specs.declared.status.Status.{Status}
+use Rattle.w32tm_text.specs.declared.status.Status.TheVariants.{Done, BadWords, ReadFault, WriteFault, ClockFault, BadRequest}
 
 -- bytes past the first 257 change no refusal
 front_decides : (accounts : List Account) (all input : List ℕ) (left : Option (List ℕ)) → Took (Some all) left input → length input ≤ request_limit → (length input < request_limit → IsUsedUp left) → refusal_of accounts all ≡ refusal_of accounts input

@@ -8,8 +8,8 @@ use Rattle.dc_sign.specs.declared.outcome.Refusal.{Refusal}
 use Rattle.dc_sign.specs.declared.info.ServerInfo.{ServerInfo}
 use Rattle.dc_sign.specs.Reply.{refusal_of, IsReplyOf}
 use Rattle.dc_sign.specs.Info.{IsLocalInfo}
-use Rattle.w32tm_cmd.specs.declared.status.Status.{Status}
-use Rattle.w32tm_cmd.specs.declared.status.Status.TheVariants.{Done, BadWords, ReadFault, WriteFault, ClockFault, BadRequest}
+use Rattle.w32tm_text.specs.declared.status.Status.{Status}
+use Rattle.w32tm_text.specs.declared.status.Status.TheVariants.{Done, BadWords, ReadFault, WriteFault, ClockFault, BadRequest}
 use Rattle.w32tm_cmd.specs.Seen.{Seen, ReadsInput, IsOutIdle, IsClockIdle, GaveFewer}
 
 -- the most bytes that are read of a request, one more than a datagram holds

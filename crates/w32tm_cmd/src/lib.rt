@@ -1,8 +1,7 @@
-//! The work of the program `w32tm`: it reads the words of the command line and carries out the command
-//! that they spell.
+//! The work of the program `w32tm`: it carries out the command that the words of the command line spell.
 //!
 //! The devices come from outside as one value, [`Outside`], over the traits of `edge_io`; what is
-//! answered to a request is settled in `dc_sign`, and how numbers and keys are spelled in `text_grammar`.
+//! answered to a request is settled in `dc_sign`, and which words are a command in `w32tm_text`.
 //! Nothing here opens a file, prints, or ends the program, so a test runs a whole command over objects in
 //! memory.
 //!
@@ -11,23 +10,18 @@
 //! [`status_line`] and ends with [`Status::code`].
 //!
 //! Begin with [`w32tm`] in `run.rt`; each command has a file of its own, as `sign.rt`. The definitions
-//! stand in `specs/`: `Words.antt` has the grammar, `Seen.antt` what the devices tell, `Sign.antt` the
-//! meaning of `/sign`, `Status.antt` the exit codes and the lines.
+//! stand in `specs/`: `Seen.antt` has what the devices tell, `Sign.antt` the meaning of `/sign`. The
+//! grammar of the words and the lines of statuses are in `w32tm_text/specs`.
 #![tactic(auto)]
 
-mod line;
 mod outside;
 mod readings;
 mod run;
 mod sign;
-mod status;
-mod words;
 
-pub use line::LineText;
 pub use outside::{Outside, Tells};
 pub use run::w32tm;
-pub use status::{Status, status_line};
-pub use words::{Action, BadWords, Command, read_words};
+pub use w32tm_text::{Status, status_line};
 
 #[cfg(test)]
 mod tests;

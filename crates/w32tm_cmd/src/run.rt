@@ -4,15 +4,16 @@ ghost use Rattle.base_specs.specs.Counts.{Rose};
 ghost use Rattle.key_book.specs.declared.account.Account.{Account};
 ghost use Rattle.dc_sign.specs.declared.outcome.Refusal.{Refusal};
 ghost use Rattle.dc_sign.specs.Reply.{refusal_of};
-ghost use Rattle.w32tm_cmd.specs.declared.status.Status.TheVariants.{BadRequest};
+ghost use Rattle.w32tm_text.specs.declared.status.Status.TheVariants.{BadRequest};
 ghost use Rattle.w32tm_cmd.specs.Seen.{HasNoFault, NeverFalls};
 ghost use Rattle.w32tm_cmd.specs.Sign.{Signs, DecidesBy, IsSignAnswer};
-ghost use Rattle.w32tm_cmd.specs.Words.{IsSign, SpellNothing, texts};
+ghost use Rattle.w32tm_text.specs.Words.{IsSign, SpellNothing, texts};
 
 use crate::sign::sign_request;
-use crate::{Action, Outside, Status, Tells, read_words};
+use crate::{Outside, Status, Tells};
 use edge_io::{Clock, Sink, Source};
 use std::alloc::Global;
+use w32tm_text::{Action, read_words};
 
 /// Carries out the command that the words spell. It takes no memory.
 ///

@@ -2,7 +2,7 @@
 ghost use Rattle.std.specs.Prelude.{◌≡◌};
 ghost use Rattle.dc_sign.specs.declared.outcome.Refusal.{Refusal};
 ghost use Rattle.w32tm_cmd.specs.Sign.{Signs};
-ghost use Rattle.w32tm_cmd.specs.declared.status.Status.TheVariants.{BadRequest};
+ghost use Rattle.w32tm_text.specs.declared.status.Status.TheVariants.{BadRequest};
 
 use crate::readings::two_readings;
 use crate::{Outside, Status, Tells};

@@ -1,7 +1,7 @@
 //! Whole runs of the top call over devices in memory.
 ghost use Rattle.std.specs.Prelude.{◌<◌, All, IfOk};
 
-use crate::{LineText, Outside, Status, status_line, w32tm};
+use crate::{Outside, Status, w32tm};
 use dc_sign::Refusal;
 use edge_io::{Clock, Filled, Reading, ScriptClock, ScriptSink, ScriptSource, fill_front};
 use std::alloc::{AllocError, Global};
@@ -277,53 +277,5 @@ fn refused_requests_and_faults(rt: HostRuntime) -> Result<(), Fail> {
     let ran = run(rt.alloc(), &[WORD], &[], &script)?;
     let reason = Refusal::BadLength;
     assert_eq!(rt; ran.status, Status::BadRequest { reason });
-    Ok(())
-}
-
-#[test]
-fn codes_and_lines(rt: HostRuntime) -> Result<(), Fail> {
-    let refused = |reason| Status::BadRequest { reason };
-    for (status, code, line) in [
-        (Status::Done, 0, ""),
-        (Status::BadWords, 1, "w32tm: bad words\n"),
-        (Status::ReadFault, 4, "w32tm: read fault\n"),
-        (Status::WriteFault, 5, "w32tm: write fault\n"),
-        (Status::ClockFault, 9, "w32tm: clock fault\n"),
-        (
-            refused(Refusal::BadLength),
-            14,
-            "w32tm: bad request, BadLength\n",
-        ),
-        (
-            refused(Refusal::BadVersion),
-            14,
-            "w32tm: bad request, BadVersion\n",
-        ),
-        (
-            refused(Refusal::BadMode),
-            14,
-            "w32tm: bad request, BadMode\n",
-        ),
-        (
-            refused(Refusal::UnknownAccount),
-            14,
-            "w32tm: bad request, UnknownAccount\n",
-        ),
-        (
-            refused(Refusal::NoOldKey),
-            14,
-            "w32tm: bad request, NoOldKey\n",
-        ),
-    ] {
-        assert_eq!(rt; status.code(), code, "{status:?}");
-        assert_eq!(rt;
-            status_line(&status).as_slice(),
-            line.as_bytes(),
-            "{status:?}"
-        );
-    }
-    let longest = [b'~'; 96];
-    let held = LineText::from_slice(&longest).ok_or("96 bytes of ASCII")?;
-    assert_eq!(rt; held.as_slice(), longest.as_slice());
     Ok(())
 }

@@ -2,10 +2,10 @@
 ghost use Rattle.std.specs.Prelude.{◌≡◌, ◌≤◌, length, IsTrue};
 ghost use Rattle.std.specs.Char.{is_ascii};
 ghost use Rattle.std.specs.List.{list_all};
-ghost use Rattle.w32tm_cmd.specs.Status.{code_of, line_of};
+ghost use Rattle.w32tm_text.specs.Status.{code_of, line_of};
 
-use crate::LineText;
 use dc_sign::Refusal;
+use line_text::LineText;
 
 /// How a command ended.
 #[derive(Clone, Copy, Debug, PartialEq, Eq)]

@@ -2,8 +2,8 @@
 use Rattle.std.specs.Prelude.{ℕ, List, [], ◌∷◌, ◌++◌, codes}
 use Rattle.dc_sign.specs.declared.outcome.Refusal.{Refusal}
 use Rattle.dc_sign.specs.declared.outcome.Refusal.TheVariants.{BadLength, BadVersion, BadMode, UnknownAccount, NoOldKey}
-use Rattle.w32tm_cmd.specs.declared.status.Status.{Status}
-use Rattle.w32tm_cmd.specs.declared.status.Status.TheVariants.{Done, BadWords, ReadFault, WriteFault, ClockFault, BadRequest}
+use Rattle.w32tm_text.specs.declared.status.Status.{Status}
+use Rattle.w32tm_text.specs.declared.status.Status.TheVariants.{Done, BadWords, ReadFault, WriteFault, ClockFault, BadRequest}
 
 -- the exit code of each status
 abbrev pub code_of : Status → ℕ

@@ -3,9 +3,9 @@ use Rattle.std.specs.Prelude.{◌≡◌, ◌<◌, ◌^◌, ℕ, List, [], ◌∷
 use Rattle.std.specs.declared.alloc.Global.{Global}
 use Rattle.hex.specs.Hex.{decode_of}
 use Rattle.key_book.specs.declared.account.Account.{Account}
-use Rattle.w32tm_cmd.specs.declared.words.Action.{Action}
-use Rattle.w32tm_cmd.specs.declared.words.Action.TheVariants.{Sign}
-use Rattle.w32tm_cmd.specs.declared.words.Command.{Command}
+use Rattle.w32tm_text.specs.declared.words.Action.{Action}
+use Rattle.w32tm_text.specs.declared.words.Action.TheVariants.{Sign}
+use Rattle.w32tm_text.specs.declared.words.Command.{Command}
 
 -- the bytes of the words
 abbrev pub texts : List (String Global) → List (List ℕ)

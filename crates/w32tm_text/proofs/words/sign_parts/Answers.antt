@@ -1,7 +1,7 @@
 use Rattle.std.proofs.Common.{◌≡◌, List, ℕ, drop, ap, ◌∙◌, arith}
 use Rattle.std.proofs.lemmas.Str.Pattern.{split_after}
-use Rattle.w32tm_cmd.proofs.Spelling.{some_and}
-use Rattle.w32tm_cmd.proofs.words.sign_parts.Goals as goal
+use Rattle.w32tm_text.proofs.Spelling.{some_and}
+use Rattle.w32tm_text.proofs.words.sign_parts.Goals as goal
 
 -- the first colon behind the command stands behind the number
 pub returns-clause-found : goal.returns-clause-found

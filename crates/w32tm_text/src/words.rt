@@ -1,9 +1,9 @@
 //! The words of the command line.
 ghost use Rattle.std.specs.Prelude.{◌≡◌, ℕ, List, ◌++◌, ◌∷◌, codes, IfOk, IfSome, IsSomeAnd, Some, Ok};
 ghost use Rattle.key_book.specs.declared.account.Account.{Account};
-ghost use Rattle.w32tm_cmd.specs.declared.words.Command.{Command};
+ghost use Rattle.w32tm_text.specs.declared.words.Command.{Command};
 ghost use Rattle.text_grammar.specs.Bytes.{HasNo};
-ghost use Rattle.w32tm_cmd.specs.Words.{colon, SpellsSign, SpellsCommand, texts};
+ghost use Rattle.w32tm_text.specs.Words.{colon, SpellsSign, SpellsCommand, texts};
 
 use key_book::Account;
 use text_grammar::{read_decimal, read_key};

@@ -1,7 +1,7 @@
 -- What the words of a command spell.
 use Rattle.std.proofs.Common.{◌≡◌, ◌<◌, ◌^◌, ℕ, List, Option, Some, None, IsSomeAnd, MatchOption, sym, arith}
 use Rattle.key_book.specs.declared.account.Account.{Account}
-use Rattle.w32tm_cmd.specs.Words.{IsAccount}
+use Rattle.w32tm_text.specs.Words.{IsAccount}
 
 -- a number of an account fits in 64 bits
 pub fits_64 : (a : Account) → IsAccount a → a.rid < 2 ^ 64

@@ -1,8 +1,8 @@
 use Rattle.std.proofs.Common.{◌∙◌, ap, decimal}
 use Rattle.hex.specs.Hex.{decode_of}
 use Rattle.text_grammar.proofs.Decimals.{no_colon}
-use Rattle.w32tm_cmd.proofs.Spelling.{account_is, fits_64}
-use Rattle.w32tm_cmd.proofs.words.read_sign.Goals as goal
+use Rattle.w32tm_text.proofs.Spelling.{account_is, fits_64}
+use Rattle.w32tm_text.proofs.words.read_sign.Goals as goal
 
 pub returns-in_err-rid-clause-found : goal.returns-in_err-rid-clause-found
 returns-in_err-rid-clause-found c a spells =
