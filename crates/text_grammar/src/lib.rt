@@ -15,10 +15,14 @@
 //! `Decimals.antt` and `Keys.antt` what stands in a line's parts.
 #![tactic(auto)]
 
+mod addresses;
 mod lines;
+mod names;
 #[cfg(test)]
 mod tests;
 mod words;
 
+pub use addresses::{read_address, read_port, read_socket_address};
 pub use lines::{cut, is_skipped, next_line};
+pub use names::{NAME_LEN, is_name};
 pub use words::{read_decimal, read_key};

@@ -1,5 +1,5 @@
-//! Texts that are numbers and keys, and texts that are not.
-use crate::{cut, is_skipped, next_line, read_decimal, read_key};
+//! Texts that are numbers, keys, names and addresses, and texts that are not.
+use crate::{cut, is_name, is_skipped, next_line, read_decimal, read_key, read_socket_address};
 
 #[test]
 fn numbers_in_their_one_spelling(rt: HostRuntime) {
@@ -94,4 +94,62 @@ fn cuts_and_comments(rt: HostRuntime) {
     }
     assert!(rt; is_skipped(b"") && is_skipped(b"#") && is_skipped(b"#\xFF\r"));
     assert!(rt; !is_skipped(b" #") && !is_skipped(b"\r"));
+}
+
+#[test]
+fn names_of_computers(rt: HostRuntime) {
+    let table: [(&[u8], bool); 16] = [
+        (b"a", true),
+        (b"DC1.corp-2.example", true),
+        (b".", true),
+        (b"-", true),
+        (b"0123456789", true),
+        (b"", false),
+        (b"a b", false),
+        (b"a_b", false),
+        (b"a:b", false),
+        (b"a/b", false),
+        (b"a,b", false),
+        (b"@", false),
+        (b"[", false),
+        (b"`", false),
+        (b"{", false),
+        (b"\xC3\xA4", false),
+    ];
+    for (text, want) in table {
+        assert_eq!(rt; is_name(text), want, "at {text:?}");
+    }
+    assert!(rt; is_name(&[b'z'; 63]));
+    assert!(rt; !is_name(&[b'z'; 64]));
+}
+
+#[test]
+fn addresses_and_ports(rt: HostRuntime) {
+    let table: [(&[u8], Option<(u32, u16)>); 22] = [
+        (b"10.0.0.1:123", Some((0x0A00_0001, 123))),
+        (b"0.0.0.0:1", Some((0, 1))),
+        (b"255.255.255.255:65535", Some((0xFFFF_FFFF, 65_535))),
+        (b"1.2.3.4:49152", Some((0x0102_0304, 49_152))),
+        (b"1.2.3.4:0", None),
+        (b"1.2.3.4:65536", None),
+        (b"1.2.3.4:0123", None),
+        (b"1.2.3.4:+123", None),
+        (b"1.2.3.4:", None),
+        (b"1.2.3.4", None),
+        (b"1.2.3.4:5:6", None),
+        (b"1.2.3.4 :5", None),
+        (b"01.2.3.4:5", None),
+        (b"1.2.3.+4:5", None),
+        (b"256.2.3.4:5", None),
+        (b"1.2.3.256:5", None),
+        (b"1.2.3:5", None),
+        (b"1.2.3.4.5:5", None),
+        (b"1..3.4:5", None),
+        (b"1.2.3.:5", None),
+        (b":5", None),
+        (b"", None),
+    ];
+    for (text, want) in table {
+        assert_eq!(rt; read_socket_address(text), want, "at {text:?}");
+    }
 }
