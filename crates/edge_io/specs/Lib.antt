@@ -2,6 +2,7 @@ pub mod Calls
 pub mod ClockScript
 pub mod CorrectedClock
 pub mod Correction
+pub mod EntropyScript
 pub mod Held
 pub mod LinkScript
 pub mod SinkScript

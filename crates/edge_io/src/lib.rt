@@ -18,6 +18,7 @@
 mod calls;
 mod clock;
 mod correction;
+mod entropy;
 mod link;
 mod reader;
 mod real_clock;
@@ -32,6 +33,7 @@ pub use edge_traits::{
     Addr, Clock, DATAGRAM_LEN, Datagram, Drawn, Entropy, Filled, Link, Move, Opened, Put, Reading,
     Receipt, Sink, Source, Take, Tried, Wire, fill_front,
 };
+pub use entropy::ScriptEntropy;
 pub use link::ScriptLink;
 pub use reader::ReaderSource;
 pub use real_clock::RealClock;
