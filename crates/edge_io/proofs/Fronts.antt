@@ -1,6 +1,7 @@
 -- Lists that are taken from their fronts.
 use Rattle.std.proofs.Common.{◌≡◌, ℕ, ◌+◌, ◌-◌, ◌≤◌, List, ◌++◌, length, take, drop, sym, ◌∙◌, ap, arith}
 use Rattle.std.proofs.Math.Seq.{take-add}
+use Rattle.edge_io.specs.Pieces.{InPieces}
 use Rattle.std.proofs.lemmas.List.{drop-drop, length-drop, length-take, take-append-drop, take-append-le, take_all}
 
 -- what is left from a place is the part that was copied from there to the front of a buffer, and what is left behind it
@@ -18,3 +19,11 @@ pub front_more : (xs : List ℕ) (n count : ℕ) → take (n + count) xs ≡ tak
 front_more xs n count =
     let rest : take (length xs - n) (drop n xs) ≡ drop n xs = take_all (length xs - n) (drop n xs) (omega (arith, length-drop n xs)) in
     take-add n count xs ∙ ap (λ (l : List ℕ). take n xs ++ take count l) (sym rest)
+
+-- what was given and what is left, from a place that is so many bytes further
+pub given_and_left : (bytes sizes : List ℕ) (at n : ℕ) (p : InPieces)
+    → p ≡ record { given = take (at + n) bytes; left = drop (at + n) bytes; sizes = sizes }
+    → p ≡ record { given = take at bytes ++ take n (drop at bytes); left = drop n (drop at bytes); sizes = sizes }
+given_and_left bytes sizes at n p is =
+    is ∙ ap (λ (l : List ℕ). record { given = l; left = drop (at + n) bytes; sizes = sizes }) (take-add at n bytes)
+    ∙ ap (λ (l : List ℕ). record { given = take at bytes ++ take n (drop at bytes); left = l; sizes = sizes }) (sym (drop-drop n at bytes))

@@ -5,6 +5,7 @@ pub mod Correction
 pub mod EntropyScript
 pub mod Held
 pub mod LinkScript
+pub mod Pieces
 pub mod SinkScript
 pub mod SourceScript
 pub use Rattle.base_specs.specs.Counts

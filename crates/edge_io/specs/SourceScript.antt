@@ -4,6 +4,7 @@ use Rattle.edge_traits.specs.declared.source.Take.{Take}
 use Rattle.edge_traits.specs.declared.source.Take.TheVariants as read
 use Rattle.base_specs.specs.Counts.{next_count}
 use Rattle.edge_io.specs.Calls.{is_listed}
+use Rattle.edge_io.specs.Pieces.{piece_len, sizes_behind}
 
 -- The bytes that are left, and the sizes of the pieces in which they come: the first is what is left of the
 -- next piece. Then the numbers of the calls that fail, the calls made, and those of them that failed.
@@ -13,16 +14,6 @@ pub record SourceScript : Type 0 where
   pub fails : List ℕ
   pub calls : ℕ
   pub faults : ℕ
-
--- how many bytes the next piece has, where so many are left: behind the last size all of them
-abbrev pub piece_len : List ℕ → ℕ → ℕ
-piece_len [] left = left
-piece_len (size ∷ sizes) left = min size left
-
--- what is left of the sizes behind so many bytes of the next piece
-abbrev pub sizes_behind : ℕ → List ℕ → List ℕ
-sizes_behind count [] = []
-sizes_behind count (size ∷ sizes) = if nat_le size count then sizes else (size - count) ∷ sizes
 
 -- A read that is not to fail gives the next piece, or as much of it as the buffer takes, and the end where nothing is left.
 abbrev pub read_answer : SourceScript → ℕ → Take

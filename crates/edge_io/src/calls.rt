@@ -1,6 +1,6 @@
 //! The calls of an object in memory: which of them fail, and how many there were.
-ghost use Rattle.std.specs.Prelude.{◌≡◌, if◌then◌else◌};
-ghost use Rattle.base_specs.specs.Counts.{next_count};
+ghost use Rattle.std.specs.Prelude.{◌≡◌, if◌then◌else◌, IsTrue};
+ghost use Rattle.base_specs.specs.Counts.{next_count, Fails};
 ghost use Rattle.edge_io.specs.Calls.{is_listed};
 
 /// The numbers of the calls that fail, the calls made so far, and those of them that failed.
@@ -28,6 +28,7 @@ impl Calls {
           made = next_count self.old.made;
           faults = if result then next_count self.old.faults else self.old.faults;
         } }
+        ensures fault { IsTrue result → Fails self.old.faults self.new.faults }
     {
         let is_due = self.begin();
         if is_due {
@@ -38,7 +39,8 @@ impl Calls {
 
     /// Counts a fault.
     pub(crate) fn fail(&mut self)
-        ensures { self.new ≡ record self.old { faults = next_count self.old.faults } }
+        ensures counted { self.new ≡ record self.old { faults = next_count self.old.faults } }
+        ensures fault { Fails self.old.faults self.new.faults }
     {
         self.faults = self.faults.saturating_add(1);
     }

@@ -20,6 +20,7 @@ mod clock;
 mod correction;
 mod entropy;
 mod link;
+mod pieces;
 mod reader;
 mod real_clock;
 mod sink;
@@ -37,7 +38,7 @@ pub use entropy::ScriptEntropy;
 pub use link::ScriptLink;
 pub use reader::ReaderSource;
 pub use real_clock::RealClock;
-pub use sink::ScriptSink;
+pub use sink::{NullSink, ScriptSink};
 pub use source::ScriptSource;
 pub use writer::WriterSink;
 

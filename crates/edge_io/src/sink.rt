@@ -1,5 +1,5 @@
 //! Bytes that are written to memory.
-ghost use Rattle.std.specs.Prelude.{◌≡◌, ◌<◌, [], IfOk, Some, length};
+ghost use Rattle.std.specs.Prelude.{◌≡◌, ◌<◌, [], IfOk, None, Some, length};
 ghost use Rattle.edge_io.specs.SinkScript.{sink_after, write_answer};
 ghost use Rattle.edge_traits.specs.Sink.{PutCounts, Writes};
 
@@ -96,6 +96,25 @@ impl Sink for ScriptSink {
             self.calls.fail();
             return Put::Failed;
         }
+        Put::Done
+    }
+}
+
+/// It takes every piece, keeps nothing and tells nothing.
+pub struct NullSink;
+
+impl Sink for NullSink {
+    ghost use Rattle.std.specs.Prelude.{None};
+
+    ghost written = { λ _. None };
+
+    ghost faults = { λ _. 0 };
+
+    fn write(&mut self, _piece: &[u8]) -> Put
+        ensures bytes { Writes result _piece.now None None }
+        ensures cause { PutCounts result 0 0 }
+        ensures answer { result ≡ Put.Done }
+    {
         Put::Done
     }
 }

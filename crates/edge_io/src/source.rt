@@ -1,58 +1,14 @@
 //! Bytes that are read from memory.
-ghost use Rattle.std.specs.Prelude.{◌≡◌, ◌<◌, ◌≤◌, ◌++◌, All, IfOk, IsOk, Some, length, take, drop, min};
-ghost use Rattle.edge_io.specs.SourceScript.{buffer_after, piece_len, read_answer, sizes_behind, source_after};
+ghost use Rattle.std.specs.Prelude.{◌≡◌, ◌<◌, All, IfOk, IsOk, Some, length};
+ghost use Rattle.edge_io.specs.SourceScript.{buffer_after, read_answer, source_after};
 ghost use Rattle.edge_traits.specs.Source.{TakeCounts, Gives};
 
 use crate::NoMemory;
 use crate::calls::Calls;
+use crate::pieces::Pieces;
 use edge_traits::{Source, Take};
 use std::alloc::Global;
 use std::marker::Model;
-
-/// The sizes of the pieces that are still to come.
-#[derive(Drop)]
-struct Sizes {
-    sizes: Vec<usize>,
-    at: usize,
-}
-
-impl Model for Sizes {
-    ghost use Rattle.std.specs.Prelude.{ℕ, List, ◌<◌, ◌≤◌, All, length, drop};
-
-    ghost Value = { List ℕ };
-
-    ghost view = { λ s. drop s.at s.sizes.items };
-
-    ghost invariant = { λ s. (s.at ≤ length s.sizes.items) × All (λ size. 0 < size) s.sizes.items };
-}
-
-impl Sizes {
-    /// The length of the next piece, of so many bytes that are left.
-    fn next(&self, left: usize) -> usize
-        ensures len { result ≡ piece_len self.now left }
-        ensures some { 0 < left → 0 < result }
-        ensures within { result ≤ left }
-    {
-        match self.sizes.get(self.at) {
-            Some(&size) => size.min(left),
-            None => left,
-        }
-    }
-
-    /// Takes so many bytes of the next piece.
-    fn take(&mut self, count: usize)
-        ensures { self.new ≡ sizes_behind count self.old }
-    {
-        if self.at < self.sizes.len() {
-            let size = self.sizes[self.at];
-            if size <= count {
-                self.at += 1;
-            } else {
-                self.sizes[self.at] = size - count;
-            }
-        }
-    }
-}
 
 /// Bytes in memory, given in pieces of set sizes, and the rest behind the last size as one piece.
 ///
@@ -60,27 +16,22 @@ impl Sizes {
 /// whose numbers are listed answer Failed and use nothing up.
 #[derive(Drop)]
 pub struct ScriptSource {
-    bytes: Vec<u8>,
-    at: usize,
-    sizes: Sizes,
+    pieces: Pieces,
     calls: Calls,
 }
 
 impl Model for ScriptSource {
-    ghost use Rattle.std.specs.Prelude.{◌≤◌, length, drop};
     ghost use Rattle.edge_io.specs.SourceScript.{SourceScript};
 
     ghost Value = { SourceScript };
 
     ghost view = { λ s. record {
-      left = drop s.at s.bytes.items;
-      sizes = s.sizes;
+      left = s.pieces.left;
+      sizes = s.pieces.sizes;
       fails = s.calls.fails.items;
       calls = s.calls.made;
       faults = s.calls.faults;
     } };
-
-    ghost invariant = { λ s. s.at ≤ length s.bytes.items };
 }
 
 impl ScriptSource {
@@ -107,12 +58,7 @@ impl ScriptSource {
         ensures faults { IfOk result (λ s. ⟦<ScriptSource as Source>⟧.faults s ≡ 0) }
     {
         Ok(ScriptSource {
-            bytes,
-            at: 0,
-            sizes: Sizes {
-                sizes: pieces,
-                at: 0,
-            },
+            pieces: Pieces::new(bytes, pieces),
             calls: Calls {
                 fails,
                 made: 0,
@@ -137,18 +83,12 @@ impl Source for ScriptSource {
         ensures buffer { buf.new ≡ buffer_after result self.old.left buf.old }
         ensures script { self.new ≡ source_after result self.old }
     {
-        if self.calls.begin() {
-            self.calls.fail();
+        if self.calls.fails_now() {
             return Take::Failed;
         }
-        let left = self.bytes.len() - self.at;
-        if left == 0 {
+        if self.pieces.is_used_up() {
             return Take::End;
         }
-        let count = self.sizes.next(left).min(buf.len());
-        buf[..count].copy_from_slice(&self.bytes[self.at..self.at + count]);
-        self.at += count;
-        self.sizes.take(count);
-        Take::Bytes(count)
+        Take::Bytes(self.pieces.give(buf))
     }
 }
