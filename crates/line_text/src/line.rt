@@ -18,6 +18,9 @@ pub struct Line<const N: usize> {
     bytes: ArrayVec<u8, N>,
 }
 
+/// A line of a command's output.
+pub type LongLine = Line<256>;
+
 impl<const N: usize> Model for Line<N> {
     ghost use Rattle.std.specs.Prelude.{ℕ, ◌≤◌, List, length, IsAscii};
 

@@ -1,10 +1,11 @@
 -- The grammar of the words of the command line, as a relation between a command and its spelling.
-use Rattle.std.specs.Prelude.{◌≡◌, ◌<◌, ◌^◌, ℕ, List, [], ◌∷◌, ◌++◌, length, map, codes, decimal, None, Ok, String, string_bytes}
+use Rattle.std.specs.Prelude.{◌≡◌, ◌<◌, ◌≤◌, ◌^◌, ℕ, List, [], ◌∷◌, ◌++◌, length, map, codes, decimal, Option, Some, None, Ok, String, string_bytes}
 use Rattle.std.specs.declared.alloc.Global.{Global}
 use Rattle.hex.specs.Hex.{decode_of}
 use Rattle.key_book.specs.declared.account.Account.{Account}
+use Rattle.key_book.specs.AccountText.{SpellsKey}
 use Rattle.w32tm_text.specs.declared.words.Action.{Action}
-use Rattle.w32tm_text.specs.declared.words.Action.TheVariants.{Sign}
+use Rattle.w32tm_text.specs.declared.words.Action.TheVariants.{Sign, Show}
 use Rattle.w32tm_text.specs.declared.words.Command.{Command}
 
 -- the bytes of the words
@@ -15,34 +16,67 @@ texts words = map string_bytes words
 abbrev pub colon : ℕ
 colon = 58
 
--- an account that words can name
-pub record IsAccount (a : Account) : Type 0 where
-  pub rid : a.rid < 2 ^ 32
-  pub key : length a.current ≡ 16
-  pub no_previous : a.previous ≡ None
+-- `KEY` where there is no previous key, and `KEY:PREVIOUS` where there is one
+abbrev pub SpellsKeys : List ℕ → Option (List ℕ) → List ℕ → Type 0
+SpellsKeys current None text = SpellsKey current text
+SpellsKeys current (Some previous) text =
+    (first : List ℕ) × (second : List ℕ) × (text ≡ first ++ colon ∷ second) × SpellsKey current first × SpellsKey previous second
 
--- `/sign:RID:KEY`, where RID is decimal without sign or leading zero, and KEY is 32 hexadecimal digits in either case
-pub record SpellsSign (a : Account) (word : List ℕ) : Type 0 where
-  pub fits : IsAccount a
-  pub key : List ℕ
-  pub written : word ≡ codes "/sign:" ++ decimal a.rid ++ colon ∷ key
-  pub decoded : decode_of key ≡ Ok a.current
+-- `RID:KEY` or `RID:KEY:PREVIOUS`, where RID is a decimal of 32 bits without sign or leading zero, and a key is 32 hexadecimal digits in either case
+pub record SpellsAccount (account : Account) (text : List ℕ) : Type 0 where
+  pub fits : account.rid < 2 ^ 32
+  pub keys : List ℕ
+  pub written : text ≡ decimal account.rid ++ colon ∷ keys
+  pub keys_spelled : SpellsKeys account.current account.previous keys
+
+-- `/sign:` and an account
+pub record SpellsSign (account : Account) (word : List ℕ) : Type 0 where
+  pub text : List ℕ
+  pub written : word ≡ codes "/sign:" ++ text
+  pub spelled : SpellsAccount account text
+
+-- at most 256 bytes, each of them two hexadecimal digits in either case
+pub record SpellsDatagram (bytes digits : List ℕ) : Type 0 where
+  pub within : length bytes ≤ 256
+  pub spelled : decode_of digits ≡ Ok bytes
+
+-- `/show:` and the digits of a datagram
+pub record SpellsShow (bytes word : List ℕ) : Type 0 where
+  pub digits : List ℕ
+  pub written : word ≡ codes "/show:" ++ digits
+  pub spelled : SpellsDatagram bytes digits
 
 -- the first word says what is to be done
 abbrev pub SpellsAction : Action → List ℕ → Type 0
 SpellsAction (Sign account) word = SpellsSign account word
+SpellsAction (Show bytes) word = SpellsShow bytes word
+
+-- the words behind the first one are options of the command; neither `/sign` nor `/show` has any
+abbrev pub SpellOptions : Action → List (List ℕ) → Type 0
+SpellOptions (Sign account) options = options ≡ []
+SpellOptions (Show bytes) options = options ≡ []
 
 -- the words are those of the command
 pub record SpellsCommand (c : Command) (words : List (List ℕ)) : Type 0 where
-  pub word : List ℕ
-  pub only : words ≡ word ∷ []
-  pub action : SpellsAction c.action word
+  pub first : List ℕ
+  pub options : List (List ℕ)
+  pub are : words ≡ first ∷ options
+  pub action : SpellsAction c.action first
+  pub options_spelled : SpellOptions c.action options
+
+-- the words spell a command with this action
+pub record IsCommand (action : Action) (words : List (List ℕ)) : Type 0 where
+  pub command : Command
+  pub is : command.action ≡ action
+  pub spelled : SpellsCommand command words
 
 -- the words spell `/sign` for an account
-pub record IsSign (account : Account) (words : List (List ℕ)) : Type 0 where
-  pub command : Command
-  pub action : command.action ≡ Sign account
-  pub spelled : SpellsCommand command words
+abbrev pub IsSign : Account → List (List ℕ) → Type 0
+IsSign account words = IsCommand (Sign account) words
+
+-- the words spell `/show` for these bytes
+abbrev pub IsShow : List ℕ → List (List ℕ) → Type 0
+IsShow bytes words = IsCommand (Show bytes) words
 
 -- the words spell no command
 abbrev pub SpellNothing : List (List ℕ) → Type 0

@@ -10,9 +10,11 @@
 //! The definitions stand in `specs/`: `Words.antt` has the grammar, and `Status.antt` the codes and the lines of statuses.
 #![tactic(auto)]
 
+mod show;
 mod status;
 mod words;
 
+pub use show::show_lines;
 pub use status::{Status, status_line};
 pub use words::{Action, BadWords, Command, read_words};
 

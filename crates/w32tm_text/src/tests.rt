@@ -1,6 +1,221 @@
-//! The codes and lines of all statuses.
-use crate::{Status, status_line};
+//! Words good and bad, the lines of messages, and the codes and lines of statuses.
+use crate::{Action, BadWords, Command, Status, read_words, show_lines, status_line};
 use dc_sign::Refusal;
+use key_book::Account;
+use ms_auth::read_packet;
+use std::alloc::{AllocError, Global};
+use std::test::Fail;
+
+fn words_of(alloc: Global, texts: &[&str]) -> Result<Vec<String>, AllocError> {
+    let mut words = Vec::new(alloc);
+    for text in texts {
+        words.push(String::from_str(alloc, text)?)?;
+    }
+    Ok(words)
+}
+
+// Words, and the lines of the message. The lines are those that `examples/peers/show.py HEX` prints.
+const SHOWN: [(&str, &str); 5] = [
+    (
+        "/show:000000000000000000000000000000000000000000000000000000000000000000000000000000000000\
+         000000000000",
+        "leap=0 version=0 mode=0 stratum=0 poll=0 precision=0\n\
+         rootdelay=0 rootdispersion=0 refid=00000000\n\
+         reference=0000000000000000 originate=0000000000000000\n\
+         receive=0000000000000000 transmit=0000000000000000\n\
+         tail=plain\n",
+    ),
+    (
+        "/show:ffffffffffffffffffffffffffffffffffffffffffffffffffffffffffffffffffffffffffffffffffff\
+         ffffffffffffffffffffffffffffffffffffffffffffffffffff",
+        "leap=3 version=7 mode=7 stratum=255 poll=-1 precision=-1\n\
+         rootdelay=-1 rootdispersion=4294967295 refid=ffffffff\n\
+         reference=ffffffffffffffff originate=ffffffffffffffff\n\
+         receive=ffffffffffffffff transmit=ffffffffffffffff\n\
+         tail=short keyid=ffffffff checksum=ffffffffffffffffffffffffffffffff\n",
+    ),
+    (
+        "/show:FFFFFFFFFFFFFFFFFFFFFFFFFFFFFFFFFFFFFFFFFFFFFFFFFFFFFFFFFFFFFFFFFFFFFFFFFFFFFFFFFFFF\
+         FFFFFFFFFFFFFFFFFFFFFFFFFFFFFFFFFFFFFFFFFFFFFFFFFFFFFFFFFFFFFFFFFFFFFFFFFFFFFFFFFFFFFFFFFF\
+         FFFFFFFFFFFFFFFFFFFFFFFFFFFFFFFFFFFFFFFFFFFFFFFFFFFFFFFFFFFFFFFFFF",
+        "leap=3 version=7 mode=7 stratum=255 poll=-1 precision=-1\n\
+         rootdelay=-1 rootdispersion=4294967295 refid=ffffffff\n\
+         reference=ffffffffffffffff originate=ffffffffffffffff\n\
+         receive=ffffffffffffffff transmit=ffffffffffffffff\n\
+         tail=extended rid=4294967295 reserved=255 flags=255 hints=255 hash=255 checksum=ffffffffff\
+         ffffffffffffffffffffffffffffffffffffffffffffffffffffffffffffffffffffffffffffffffffffffffff\
+         ffffffffffffffffffffffffffff\n",
+    ),
+    (
+        "/show:0000807f8000000000000000000000000000000000000000000000000000000000000000000000000000\
+         0000000000004f040000000102030405060708090a0b0c0d0e0f",
+        "leap=0 version=0 mode=0 stratum=0 poll=-128 precision=127\n\
+         rootdelay=-2147483648 rootdispersion=0 refid=00000000\n\
+         reference=0000000000000000 originate=0000000000000000\n\
+         receive=0000000000000000 transmit=0000000000000000\n\
+         tail=short keyid=0000044f checksum=000102030405060708090a0b0c0d0e0f\n",
+    ),
+    (
+        "/show:23007F807fffFFff505152535455565758595a5b5c5d5e5f606162636465666768696a6b6c6d6e6f7071\
+         7273747576770403020105060708000102030405060708090a0b0c0d0e0f101112131415161718191a1b1c1d1e\
+         1f202122232425262728292a2b2c2d2e2f303132333435363738393a3b3c3d3e3f",
+        "leap=0 version=4 mode=3 stratum=0 poll=127 precision=-128\n\
+         rootdelay=2147483647 rootdispersion=1347506771 refid=54555657\n\
+         reference=58595a5b5c5d5e5f originate=6061626364656667\n\
+         receive=68696a6b6c6d6e6f transmit=7071727374757677\n\
+         tail=extended rid=16909060 reserved=5 flags=6 hints=7 hash=8 checksum=00010203040506070809\
+         0a0b0c0d0e0f101112131415161718191a1b1c1d1e1f202122232425262728292a2b2c2d2e2f30313233343536\
+         3738393a3b3c3d3e3f\n",
+    ),
+];
+
+#[test]
+fn shows_each_kind_at_its_ends(rt: HostRuntime) -> Result<(), Fail> {
+    for (word, lines) in SHOWN {
+        let words = words_of(rt.alloc(), &[word])?;
+        let Ok(
+            Command {
+                action: Action::Show(bytes),
+            },
+        ) = read_words(&words)
+        else {
+            return Err("words")?;
+        };
+        let packet = read_packet(bytes.as_slice())?;
+        let mut text = Vec::new(rt.alloc());
+        for line in &show_lines(&packet) {
+            text.extend_from_slice(line.as_slice())?;
+        }
+        assert_eq!(rt; text.as_slice(), lines.as_bytes(), "{word}");
+    }
+    Ok(())
+}
+
+const KEY: [u8; 16] = [0xA5; 16];
+
+const PREVIOUS: [u8; 16] = [
+    0x00, 0x11, 0x22, 0x33, 0x44, 0x55, 0x66, 0x77, 0x88, 0x99, 0xAA, 0xBB, 0xCC, 0xDD, 0xEE, 0xFF,
+];
+
+// Words, and the account that they name.
+const SIGNING: [(&str, Account); 3] = [
+    (
+        "/sign:0:a5a5a5a5a5a5a5a5A5A5A5A5A5A5A5A5",
+        Account {
+            rid: 0,
+            current: KEY,
+            previous: None,
+        },
+    ),
+    (
+        "/sign:4294967295:A5a5a5a5a5a5a5a5a5a5a5a5a5a5a5a5:00112233445566778899aAbBcCdDeEfF",
+        Account {
+            rid: 4_294_967_295,
+            current: KEY,
+            previous: Some(PREVIOUS),
+        },
+    ),
+    (
+        "/sign:1103:00112233445566778899aabbccddeeff:a5a5a5a5a5a5a5a5a5a5a5a5a5a5a5a5",
+        Account {
+            rid: 1103,
+            current: PREVIOUS,
+            previous: Some(KEY),
+        },
+    ),
+];
+
+#[test]
+fn accounts_of_words(rt: HostRuntime) -> Result<(), Fail> {
+    for (word, account) in SIGNING {
+        let words = words_of(rt.alloc(), &[word])?;
+        match read_words(&words) {
+            Ok(
+                Command {
+                    action: Action::Sign(read),
+                },
+            ) => assert_eq!(rt; read, account, "{word}"),
+            _ => return Err("words")?,
+        }
+    }
+    Ok(())
+}
+
+#[test]
+fn datagrams_of_words(rt: HostRuntime) -> Result<(), Fail> {
+    for (digits, count) in [(0, 0), (2, 1), (510, 255), (512, 256)] {
+        let mut word = String::from_str(rt.alloc(), "/show:")?;
+        for _ in 0..digits {
+            word.push('f')?;
+        }
+        let mut words = Vec::new(rt.alloc());
+        words.push(word)?;
+        match read_words(&words) {
+            Ok(
+                Command {
+                    action: Action::Show(bytes),
+                },
+            ) => {
+                assert_eq!(rt; bytes.as_slice().len(), count);
+                assert!(rt; bytes.as_slice().iter().all(|byte| *byte == 0xFF));
+            }
+            _ => return Err("words")?,
+        }
+    }
+    for digits in [1, 511, 513, 514] {
+        let mut word = String::from_str(rt.alloc(), "/show:")?;
+        for _ in 0..digits {
+            word.push('f')?;
+        }
+        let mut words = Vec::new(rt.alloc());
+        words.push(word)?;
+        assert!(rt; read_words(&words).is_err(), "{digits} digits");
+    }
+    Ok(())
+}
+
+const BAD_WORDS: [&[&str]; 31] = [
+    &[],
+    &[""],
+    &["sign:1103:00000000000000000000000000000000"],
+    &["/sign"],
+    &["/sign:"],
+    &["/sign:1103"],
+    &["/sign:1103:"],
+    &["/SIGN:1103:00000000000000000000000000000000"],
+    &[" /sign:1103:00000000000000000000000000000000"],
+    &["/sign:1103:00000000000000000000000000000000 "],
+    &["/sign::00000000000000000000000000000000"],
+    &["/sign:01103:00000000000000000000000000000000"],
+    &["/sign:00:00000000000000000000000000000000"],
+    &["/sign:+5:00000000000000000000000000000000"],
+    &["/sign:-0:00000000000000000000000000000000"],
+    &["/sign:4294967296:00000000000000000000000000000000"],
+    &["/sign:1103:0000000000000000000000000000000"],
+    &["/sign:1103:000000000000000000000000000000000"],
+    &["/sign:1103:0000000000000000000000000000000g"],
+    &["/sign:1103:00000000000000000000000000000000:"],
+    &["/sign:1103::00000000000000000000000000000000"],
+    &["/sign:1103:00000000000000000000000000000000:0000000000000000000000000000000"],
+    &["/sign:1103:00000000000000000000000000000000:00000000000000000000000000000000:"],
+    &["/sign:1103:00000000000000000000000000000000", ""],
+    &["/sign:1103:00000000000000000000000000000000", "/port:123"],
+    &["/show"],
+    &["/show:0"],
+    &["/show:0g"],
+    &["/show: 00"],
+    &["/show:00:00"],
+    &["/show:00", "/show:00"],
+];
+
+#[test]
+fn bad_words(rt: HostRuntime) -> Result<(), Fail> {
+    for texts in BAD_WORDS {
+        let words = words_of(rt.alloc(), texts)?;
+        assert!(rt; matches!(read_words(&words), Err(BadWords)), "{texts:?}");
+    }
+    Ok(())
+}
 
 #[test]
 fn codes_and_lines(rt: HostRuntime) {
