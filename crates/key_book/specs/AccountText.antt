@@ -43,3 +43,7 @@ account_line account = codes "account " ++ decimal account.rid ++ 32 ∷ (encode
 -- the lines of accounts in their order, each with a line feed
 abbrev pub printed : List Account → List ℕ
 printed accounts = flat_map (λ account. account_line account ++ 10 ∷ []) accounts
+
+-- what an account shows of itself where it is printed for a reader of the program: its RID, and no key
+abbrev pub shown : Account → List ℕ
+shown account = codes "Account { rid: " ++ decimal account.rid ++ codes ", .. }"

@@ -1,7 +1,8 @@
 //! One account.
+use std::fmt;
 
-/// An account of the domain with its keys.
-#[derive(Clone, Copy, Debug, PartialEq, Eq)]
+/// An account of the domain with its keys. `{:?}` prints its RID alone, never a key.
+#[derive(Clone, Copy, PartialEq, Eq)]
 pub struct Account {
     /// The relative identifier (RID), which no other account of the domain has.
     pub rid: u32,
@@ -25,5 +26,17 @@ impl Account {
         } else {
             Some(self.current)
         }
+    }
+}
+
+impl fmt::Debug for Account {
+    ghost use Rattle.std.specs.Prelude.{Some};
+    ghost use Rattle.key_book.specs.AccountText.{shown};
+
+    ghost debug_output = { λ account. Some (shown account) };
+
+    fn fmt<W: fmt::Write>(&self, f: &mut fmt::Formatter<W>) -> fmt::Result {
+        let rid = self.rid;
+        write!(f, "Account {{ rid: {rid}, .. }}")
     }
 }

@@ -34,7 +34,7 @@ impl Book {
     ghost use Rattle.key_book.specs.Parsing.{IsAnswer};
 
     /// A book without accounts.
-    pub(crate) fn new(alloc: Global) -> Self
+    pub fn new(alloc: Global) -> Self
         ensures { result ≡ [] }
     {
         Book {
@@ -42,8 +42,9 @@ impl Book {
         }
     }
 
-    /// Adds an account at the end.
-    pub(crate) fn add(&mut self, account: Account) -> Result<(), AllocError>
+    /// Adds an account at the end. No account of the book has its RID: [`find`](Keys::find) tells. The error is want
+    /// of memory.
+    pub fn add(&mut self, account: Account) -> Result<(), AllocError>
         requires fits { IsAccount account }
         requires fresh { NoneHas self.old account.rid }
         ensures { OnOk result (self.new ≡ self.old ++ account ∷ []) }

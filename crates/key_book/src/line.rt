@@ -7,10 +7,14 @@ use crate::Account;
 use text_grammar::{cut, read_decimal, read_key};
 
 /// How each account line begins.
-pub(crate) const ACCOUNT: &[u8] = b"account ";
+pub const ACCOUNT: &[u8] = b"account ";
 
-/// The account that the line spells. None where it spells none.
-pub(crate) fn read_account(line: &[u8]) -> Option<Account>
+/// The account that the line spells: `account RID KEY` or `account RID KEY PREVIOUS` with single blanks. None where
+/// it spells none.
+///
+/// RID is a decimal without sign or leading zero of at most 4,294,967,295, and a key is 32 hexadecimal digits in either
+/// case.
+pub fn read_account(line: &[u8]) -> Option<Account>
     ensures read { IfSome result (λ account. SpellsAccount account line.now) }
     ensures found { (account : Account) → SpellsAccount account line.now → result ≡ Some account }
 {

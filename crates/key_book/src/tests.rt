@@ -270,3 +270,15 @@ fn found_and_missing(rt: HostRuntime) -> Result<(), Fail> {
     assert_eq!(rt; found.key(true), Some([0x22; 16]));
     Ok(())
 }
+
+#[test]
+fn shows_no_key(rt: HostRuntime) -> Result<(), Fail> {
+    let account = Account {
+        rid: 1103,
+        current: [0xAB; 16],
+        previous: Some([0xCD; 16]),
+    };
+    let shown = format!(in rt.alloc(); "{account:?}")?;
+    assert_eq!(rt; shown.as_str(), "Account { rid: 1103, .. }");
+    Ok(())
+}
