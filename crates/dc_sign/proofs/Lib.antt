@@ -1,3 +1,3 @@
-mod Deciding
-pub mod Uniqueness
+pub mod Deciding
 pub mod Replies
+pub mod Uniqueness

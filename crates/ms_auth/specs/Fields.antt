@@ -1,5 +1,5 @@
 -- The fields of a message by their places in its bytes, and the checksum that the bytes should carry.
-use Rattle.std.specs.Prelude.{◌≡◌, ℕ, ◌%◌, ◌^◌, Bool, nat_le, List, length, slice_index, take, Some}
+use Rattle.std.specs.Prelude.{◌≡◌, ◌==◌, ℕ, ◌%◌, ◌^◌, Bool, nat_le, List, length, slice_index, take, Some}
 use Rattle.byte_codec.specs.Numbers.{low_word_at, part_at}
 use Rattle.mac_kdf.specs.Digests.{ext_digest, md5_digest}
 use Rattle.ntp_wire.specs.Fields.{IsHeaderAt}
@@ -62,6 +62,16 @@ IsTailAt bytes (Ext120 rid reserved flags hints hash sum) = IsExtendedAt bytes r
 abbrev pub kind_length : Kind → ℕ
 kind_length Short = 68
 kind_length Extended = 120
+
+-- the RID that a message of a kind names
+abbrev pub rid_at : Kind → List ℕ → ℕ
+rid_at Short bytes = short_rid_of bytes
+rid_at Extended bytes = key_id_of bytes
+
+-- whether it asks for the previous key: by bit 31 of the key identifier, and by bit 0 of Flags
+abbrev pub old_at : Kind → List ℕ → Bool
+old_at Short bytes = asks_for_previous bytes
+old_at Extended bytes = flags_of bytes % 2 == 1
 
 -- the checksum that the bytes of a message of a kind carry
 abbrev pub sum_at : Kind → List ℕ → List ℕ
