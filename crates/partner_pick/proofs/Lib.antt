@@ -1,0 +1,4 @@
+mod Orders
+pub mod Parsings
+mod Ranks
+mod Steps
