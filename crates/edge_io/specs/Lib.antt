@@ -6,8 +6,10 @@ pub mod EntropyScript
 pub mod Held
 pub mod LinkScript
 pub mod Pieces
+pub mod SessionScript
 pub mod SinkScript
 pub mod SourceScript
+pub mod WireScript
 pub use Rattle.base_specs.specs.Counts
 pub use Rattle.base_specs.specs.Time
 pub use Rattle.base_specs.specs.Told

@@ -23,10 +23,12 @@ mod link;
 mod pieces;
 mod reader;
 mod real_clock;
+mod session;
 mod sink;
 mod source;
 #[cfg(test)]
 mod tests;
+mod wire;
 mod writer;
 
 pub use clock::ScriptClock;
@@ -40,6 +42,7 @@ pub use reader::ReaderSource;
 pub use real_clock::RealClock;
 pub use sink::{NullSink, ScriptSink};
 pub use source::ScriptSource;
+pub use wire::ScriptWire;
 pub use writer::WriterSink;
 
 /// There was no memory.
