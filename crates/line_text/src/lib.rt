@@ -7,9 +7,9 @@
 //! It stands on `arrayvec` for the bytes and on `itoa` and `hex` for the digits. The layer above sees both types as
 //! lists of bytes, and may rely on what each call adds to that list, and on every byte being ASCII.
 //!
-//! `specs/Line.antt` says which lists of bytes a line can hold, and `specs/Text.antt` what stands of a text in lines that
-//! breaks off. What a number adds is `itoa`'s word for its text, the
-//! standard library's `decimal` or `signed_decimal`; what bytes add is the `encode_lower` of `hex`.
+//! `specs/Line.antt` says which lists of bytes a line can hold, and `specs/Text.antt` what stands of a text in lines
+//! that breaks off. What a number adds is `itoa`'s word for its text, the standard library's `decimal` or
+//! `signed_decimal`; what bytes add is the `encode_lower` of `hex`.
 #![tactic(auto)]
 
 mod line;

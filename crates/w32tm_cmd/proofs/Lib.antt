@@ -1,2 +1,5 @@
+mod Commands
 mod Requests
+mod Showing
 mod Signing
+mod Writings

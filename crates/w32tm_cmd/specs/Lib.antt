@@ -1,2 +1,4 @@
 pub mod Seen
+pub mod Show
 pub mod Sign
+pub mod Writing

@@ -10,14 +10,17 @@
 //! [`status_line`] and ends with [`Status::code`].
 //!
 //! Begin with [`w32tm`] in `run.rt`; each command has a file of its own, as `sign.rt`. The definitions
-//! stand in `specs/`: `Seen.antt` has what the devices tell, `Sign.antt` the meaning of `/sign`. The
-//! grammar of the words and the lines of statuses are in `w32tm_text/specs`.
+//! stand in `specs/`: `Seen.antt` has what the devices tell, `Sign.antt` and `Show.antt` the meaning of
+//! each command, `Writing.antt` what is written line by line. The grammar of the words and the lines that
+//! are printed are in `w32tm_text/specs`.
 #![tactic(auto)]
 
 mod outside;
 mod readings;
 mod run;
+mod show;
 mod sign;
+mod writing;
 
 pub use outside::{Outside, Tells};
 pub use run::w32tm;

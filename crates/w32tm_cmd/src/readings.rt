@@ -9,7 +9,8 @@ use edge_io::{Clock, Reading};
 
 /// Reads the clock twice, and answers None where a reading failed. Then the clock isn't read again.
 pub(crate) fn two_readings<C: Clock>(clock: &mut C) -> Option<(i64, i64)>
-    ensures given { IfSome result (λ t. GaveReadings (C.told clock.old) (C.told clock.new) (t.0 ∷ t.1 ∷ [])) }
+    ensures given { IfSome result (λ t.
+        GaveReadings (C.told clock.old) (C.told clock.new) (t.0 ∷ t.1 ∷ [])) }
     ensures first { IfSome result (λ t. IsReading t.0) }
     ensures second { IfSome result (λ t. IsReading t.1) }
     ensures no_fault { OnSome result (C.faults clock.new ≡ C.faults clock.old) }

@@ -1,14 +1,17 @@
 //! The top call.
-ghost use Rattle.std.specs.Prelude.{◌≡◌, ◌↔◌, ℕ, List, [], ◌∷◌, None, Some};
+ghost use Rattle.std.specs.Prelude.{◌≡◌, ◌↔◌, ℕ, List, [], ◌∷◌, length, None, Some};
 ghost use Rattle.base_specs.specs.Counts.{Rose};
 ghost use Rattle.key_book.specs.declared.account.Account.{Account};
 ghost use Rattle.dc_sign.specs.declared.outcome.Refusal.{Refusal};
 ghost use Rattle.dc_sign.specs.Reply.{refusal_of};
+ghost use Rattle.ms_auth.specs.Packet.{IsPacketLength};
 ghost use Rattle.w32tm_text.specs.declared.status.Status.TheVariants.{BadRequest};
 ghost use Rattle.w32tm_cmd.specs.Seen.{HasNoFault, NeverFalls};
+ghost use Rattle.w32tm_cmd.specs.Show.{Shows, IsShowAnswer};
 ghost use Rattle.w32tm_cmd.specs.Sign.{Signs, DecidesBy, IsSignAnswer};
-ghost use Rattle.w32tm_text.specs.Words.{IsSign, SpellNothing, texts};
+ghost use Rattle.w32tm_text.specs.Words.{IsShow, IsSign, SpellNothing, texts};
 
+use crate::show::show_message;
 use crate::sign::sign_request;
 use crate::{Outside, Status, Tells};
 use edge_io::{Clock, Sink, Source};
@@ -17,9 +20,10 @@ use w32tm_text::{Action, read_words};
 
 /// Carries out the command that the words spell. It takes no memory.
 ///
-/// `/sign:RID:KEY` reads a time request from `capture_in`, to its end or to 257 bytes, then reads the
-/// clock twice, and writes to `out` the reply of a controller with that one account and the local
-/// information. A failed call ends the command, and is the last that is made.
+/// `/sign:RID:KEY` and `/sign:RID:KEY:PREVIOUS` read a time request from `capture_in`, to its end or to
+/// 257 bytes, then read the clock twice, and write to `out` the reply of a controller with that one account
+/// and the local information. `/show:HEX` writes to `out` the lines of the message that the bytes spell,
+/// each in one write. A failed call ends the command, and is the last that is made.
 pub fn w32tm<S: Source, O: Sink, C: Clock>(
     _alloc: Global,
     words: &Vec<String>,
@@ -32,34 +36,65 @@ pub fn w32tm<S: Source, O: Sink, C: Clock>(
     ensures sign { let seen = ⟦<Outside<S, O, C> as Tells>⟧.seen in
         (account : Account) → IsSign account (texts words.now.items)
         → Signs account (seen outside.old) (seen outside.new) result }
-    ensures sign_answers { (account : Account) → IsSign account (texts words.now.items) → IsSignAnswer result }
+    ensures sign_answers { (account : Account) → IsSign account (texts words.now.items)
+        → IsSignAnswer result }
 
     // It touches no other device: the input alone before a failed read, and no output where no reply is
     // written.
     ensures sign_others { (account : Account) → IsSign account (texts words.now.items)
-        → outside.new ≡ record outside.old { capture_in = outside.new.capture_in; out = outside.new.out; clock = outside.new.clock } }
+        → outside.new ≡ record outside.old {
+          capture_in = outside.new.capture_in;
+          out = outside.new.out;
+          clock = outside.new.clock;
+        } }
     ensures sign_read_fault { (account : Account) → IsSign account (texts words.now.items)
         → result ≡ Status.ReadFault
         → outside.new ≡ record outside.old { capture_in = outside.new.capture_in } }
     ensures sign_clock_fault { (account : Account) → IsSign account (texts words.now.items)
         → result ≡ Status.ClockFault
-        → outside.new ≡ record outside.old { capture_in = outside.new.capture_in; clock = outside.new.clock } }
-    ensures sign_refused { (account : Account) (reason : Refusal) → IsSign account (texts words.now.items)
-        → result ≡ BadRequest reason
-        → outside.new ≡ record outside.old { capture_in = outside.new.capture_in; clock = outside.new.clock } }
+        → outside.new ≡ record outside.old {
+          capture_in = outside.new.capture_in;
+          clock = outside.new.clock;
+        } }
+    ensures sign_refused { (account : Account) (reason : Refusal)
+        → IsSign account (texts words.now.items) → result ≡ BadRequest reason
+        → outside.new ≡ record outside.old {
+          capture_in = outside.new.capture_in;
+          clock = outside.new.clock;
+        } }
 
-    // Where the input tells its bytes, they decide.
+    // What `/show` writes, for each answer. It touches the output alone, and nothing where it refuses.
+    ensures show { let seen = ⟦<Outside<S, O, C> as Tells>⟧.seen in
+        (bytes : List ℕ) → IsShow bytes (texts words.now.items)
+        → Shows bytes (seen outside.old) (seen outside.new) result }
+    ensures show_answers { (bytes : List ℕ) → IsShow bytes (texts words.now.items)
+        → IsShowAnswer result }
+    ensures show_others { (bytes : List ℕ) → IsShow bytes (texts words.now.items)
+        → outside.new ≡ record outside.old { out = outside.new.out } }
+    ensures show_refused { (bytes : List ℕ) (reason : Refusal)
+        → IsShow bytes (texts words.now.items) → result ≡ BadRequest reason → outside.new ≡ outside.old }
+
+    // It refuses exactly the bytes that spell no message, and is done where no call failed.
+    ensures show_bad_length { (bytes : List ℕ) → IsShow bytes (texts words.now.items)
+        → (result ≡ BadRequest Refusal.BadLength) ↔ ¬ IsPacketLength (length bytes) }
+    ensures show_complete { let seen = ⟦<Outside<S, O, C> as Tells>⟧.seen in
+        (bytes : List ℕ) → IsShow bytes (texts words.now.items)
+        → HasNoFault (seen outside.old) (seen outside.new) → IsPacketLength (length bytes)
+        → result ≡ Status.Done }
+
+    // Where the input tells its bytes, they decide on `/sign`.
     ensures request { let seen = ⟦<Outside<S, O, C> as Tells>⟧.seen in
         (account : Account) (bytes : List ℕ) → IsSign account (texts words.now.items)
         → (seen outside.old).left ≡ Some bytes → DecidesBy account bytes result }
 
-    // Where no call failed, the request is answered, or refused for its reason.
+    // Where no call of `/sign` failed, the request is answered, or refused for its reason.
     ensures complete { let seen = ⟦<Outside<S, O, C> as Tells>⟧.seen in
         (account : Account) (bytes : List ℕ) → IsSign account (texts words.now.items)
         → (seen outside.old).left ≡ Some bytes → HasNoFault (seen outside.old) (seen outside.new)
         → refusal_of (account ∷ []) bytes ≡ None → result ≡ Status.Done }
     ensures complete_refused { let seen = ⟦<Outside<S, O, C> as Tells>⟧.seen in
-        (account : Account) (bytes : List ℕ) (reason : Refusal) → IsSign account (texts words.now.items)
+        (account : Account) (bytes : List ℕ) (reason : Refusal)
+        → IsSign account (texts words.now.items)
         → (seen outside.old).left ≡ Some bytes → HasNoFault (seen outside.old) (seen outside.new)
         → refusal_of (account ∷ []) bytes ≡ Some reason → result ≡ BadRequest reason }
 
@@ -67,16 +102,20 @@ pub fn w32tm<S: Source, O: Sink, C: Clock>(
     ensures counts { let seen = ⟦<Outside<S, O, C> as Tells>⟧.seen in
         NeverFalls (seen outside.old) (seen outside.new) }
     ensures read_fault { let seen = ⟦<Outside<S, O, C> as Tells>⟧.seen in
-        result ≡ Status.ReadFault → Rose (seen outside.old).read_faults (seen outside.new).read_faults }
+        result ≡ Status.ReadFault
+        → Rose (seen outside.old).read_faults (seen outside.new).read_faults }
     ensures write_fault { let seen = ⟦<Outside<S, O, C> as Tells>⟧.seen in
-        result ≡ Status.WriteFault → Rose (seen outside.old).write_faults (seen outside.new).write_faults }
+        result ≡ Status.WriteFault
+        → Rose (seen outside.old).write_faults (seen outside.new).write_faults }
     ensures clock_fault { let seen = ⟦<Outside<S, O, C> as Tells>⟧.seen in
-        result ≡ Status.ClockFault → Rose (seen outside.old).clock_faults (seen outside.new).clock_faults }
+        result ≡ Status.ClockFault
+        → Rose (seen outside.old).clock_faults (seen outside.new).clock_faults }
 {
     match read_words(words) {
         Err(_) => Status::BadWords,
         Ok(command) => match command.action {
             Action::Sign(account) => sign_request(&account, outside),
+            Action::Show(bytes) => show_message(bytes.as_slice(), outside),
         },
     }
 }

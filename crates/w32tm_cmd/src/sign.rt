@@ -23,13 +23,23 @@ pub(crate) fn sign_request<S: Source, O: Sink, C: Clock>(
         Signs account.now (seen outside.old) (seen outside.new) result }
 
     // What each answer leaves as it was.
-    ensures others { outside.new ≡ record outside.old { capture_in = outside.new.capture_in; out = outside.new.out; clock = outside.new.clock } }
+    ensures others { outside.new ≡ record outside.old {
+      capture_in = outside.new.capture_in;
+      out = outside.new.out;
+      clock = outside.new.clock;
+    } }
     ensures read_fault { result ≡ Status.ReadFault
         → outside.new ≡ record outside.old { capture_in = outside.new.capture_in } }
     ensures clock_fault { result ≡ Status.ClockFault
-        → outside.new ≡ record outside.old { capture_in = outside.new.capture_in; clock = outside.new.clock } }
+        → outside.new ≡ record outside.old {
+          capture_in = outside.new.capture_in;
+          clock = outside.new.clock;
+        } }
     ensures refused { (reason : Refusal) → result ≡ BadRequest reason
-        → outside.new ≡ record outside.old { capture_in = outside.new.capture_in; clock = outside.new.clock } }
+        → outside.new ≡ record outside.old {
+          capture_in = outside.new.capture_in;
+          clock = outside.new.clock;
+        } }
 {
     let mut input = [0; INPUT_LEN];
     let Filled::Bytes(count) = fill_front(&mut outside.capture_in, &mut input) else {

@@ -68,4 +68,5 @@ tail_line (Ext120 rid reserved flags hints hash sum) =
 
 -- the five lines of a message
 abbrev pub show_lines : Packet → List (List ℕ)
-show_lines p = clock_line p.header ∷ root_line p.header ∷ reference_line p.header ∷ receive_line p.header ∷ tail_line p.tail ∷ []
+show_lines p =
+    clock_line p.header ∷ root_line p.header ∷ reference_line p.header ∷ receive_line p.header ∷ tail_line p.tail ∷ []

@@ -20,9 +20,11 @@ colon = 58
 abbrev pub SpellsKeys : List ℕ → Option (List ℕ) → List ℕ → Type 0
 SpellsKeys current None text = SpellsKey current text
 SpellsKeys current (Some previous) text =
-    (first : List ℕ) × (second : List ℕ) × (text ≡ first ++ colon ∷ second) × SpellsKey current first × SpellsKey previous second
+    (first : List ℕ) × (second : List ℕ) × (text ≡ first ++ colon ∷ second)
+    × SpellsKey current first × SpellsKey previous second
 
--- `RID:KEY` or `RID:KEY:PREVIOUS`, where RID is a decimal of 32 bits without sign or leading zero, and a key is 32 hexadecimal digits in either case
+-- `RID:KEY` or `RID:KEY:PREVIOUS`: RID is a decimal of 32 bits without sign or leading zero, and a key is 32
+-- hexadecimal digits in either case
 pub record SpellsAccount (account : Account) (text : List ℕ) : Type 0 where
   pub fits : account.rid < 2 ^ 32
   pub keys : List ℕ

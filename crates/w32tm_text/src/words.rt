@@ -72,7 +72,8 @@ fn read_action(word: &[u8]) -> Option<Action>
 /// What stands behind the name with which a word begins. None where it begins otherwise.
 fn behind<'a>(word: &'a [u8], name: &[u8]) -> Option<&'a [u8]>
     ensures read { IfSome result (λ text. word.now ≡ name.now ++ text.now) }
-    ensures found { (text : List ℕ) → word.now ≡ name.now ++ text → IsSomeAnd result (λ t. t.now ≡ text) }
+    ensures found { (text : List ℕ) → word.now ≡ name.now ++ text
+        → IsSomeAnd result (λ t. t.now ≡ text) }
 {
     word.strip_prefix(name)
 }
@@ -95,8 +96,8 @@ fn read_account(text: &[u8]) -> Option<Account>
 /// The current key, and the previous one where there is one.
 fn read_keys(text: &[u8]) -> Option<([u8; 16], Option<[u8; 16]>)>
     ensures read { IfSome result (λ keys. SpellsKeys keys.0 keys.1 text.now) }
-    ensures found { (current : List ℕ) (previous : Option (List ℕ)) → SpellsKeys current previous text.now
-        → result ≡ Some record { 0 = current; 1 = previous } }
+    ensures found { (current : List ℕ) (previous : Option (List ℕ))
+        → SpellsKeys current previous text.now → result ≡ Some record { 0 = current; 1 = previous } }
 {
     match cut(text, b':') {
         None => Some((read_key(text)?, None)),
