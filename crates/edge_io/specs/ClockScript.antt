@@ -33,7 +33,11 @@ with_reading t (Some told) = Some (record told { readings = told.readings ++ t �
 
 -- what an answer leaves
 abbrev pub clock_after : Reading → ClockScript → ClockScript
-clock_after (clock.At t) s = record s { coming = drop 1 s.coming; told = with_reading t s.told; calls = next_count s.calls }
+clock_after (clock.At t) s = record s {
+  coming = drop 1 s.coming;
+  told = with_reading t s.told;
+  calls = next_count s.calls;
+}
 clock_after clock.Failed s = record s { calls = next_count s.calls; faults = next_count s.faults }
 
 -- what is told with one more move; where there is no room for it, nothing from then on

@@ -1,5 +1,5 @@
 -- What a clock over the machine's clock gives.
-use Rattle.std.specs.Prelude.{◌≡◌, ◌⊎◌, ℕ, ℤ, pos, ◌+ℤ◌}
+use Rattle.std.specs.Prelude.{◌≡◌, ℕ, ℤ, pos, ◌+ℤ◌, Option, Some, None}
 use Rattle.base_specs.specs.Time.{IsReading}
 use Rattle.edge_traits.specs.declared.clock.Reading.{Reading}
 use Rattle.edge_traits.specs.declared.clock.Reading.TheVariants as clock
@@ -31,12 +31,16 @@ with_slew amount c = record c { correction = slewed_by amount c.correction }
 abbrev pub moment_at : ℕ → CorrectedClock → ℤ
 moment_at machine c = pos machine +ℤ ahead_of (looking_at machine c).correction
 
--- A reading is the machine's with the corrections. It fails where the machine's can't be had, and where the sum is no reading.
-abbrev pub ReadsCorrected : Reading → CorrectedClock → CorrectedClock → Type 0
-ReadsCorrected (clock.At t) old new = (machine : ℕ) × (new ≡ looking_at machine old) × (t ≡ moment_at machine old)
-ReadsCorrected clock.Failed old new =
-    (new ≡ with_fault old) ⊎ ((machine : ℕ) × (new ≡ with_fault (looking_at machine old)) × (IsReading (moment_at machine old) → ⊥))
+-- A reading is the machine's with the corrections, where that sum is a reading. It fails where it is none, and where
+-- the machine's clock can't be had.
+abbrev pub ReadsAt : Option ℕ → Reading → CorrectedClock → CorrectedClock → Type 0
+ReadsAt (Some machine) (clock.At t) old new = (t ≡ moment_at machine old) × (new ≡ looking_at machine old)
+ReadsAt (Some machine) clock.Failed old new =
+    (IsReading (moment_at machine old) → ⊥) × (new ≡ with_fault (looking_at machine old))
+ReadsAt None (clock.At t) old new = ⊥
+ReadsAt None clock.Failed old new = new ≡ with_fault old
 
 -- A slew begins at what the machine's clock reads; where that can't be had, it begins where it was last looked at.
-abbrev pub BeginsSlew : ℤ → CorrectedClock → CorrectedClock → Type 0
-BeginsSlew amount old new = (new ≡ with_slew amount old) ⊎ ((machine : ℕ) × (new ≡ with_slew amount (looking_at machine old)))
+abbrev pub slewed_at : Option ℕ → ℤ → CorrectedClock → CorrectedClock
+slewed_at (Some machine) amount c = with_slew amount (looking_at machine c)
+slewed_at None amount c = with_slew amount c

@@ -12,12 +12,12 @@ pub record Held (Inner : Type 0) : Type 0 where
   pub faults : ℕ
 
 -- the reader loses the bytes that were given, and nothing where the end or a failure was answered; the end is its end
-abbrev pub ReadsOn : Take → List ℕ → Option (List ℕ) → Option (List ℕ) → Type 0
-ReadsOn (read.Bytes count) buf old new = Consumes old new (take count buf)
-ReadsOn read.End buf old new = Consumes old new [] × IsAtEnd new
-ReadsOn read.Failed buf old new = Keeps old new
+abbrev pub ReaderGives : Take → List ℕ → Option (List ℕ) → Option (List ℕ) → Type 0
+ReaderGives (read.Bytes count) buf old new = Consumes old new (take count buf)
+ReaderGives read.End buf old new = Consumes old new [] × IsAtEnd new
+ReaderGives read.Failed buf old new = Keeps old new
 
 -- the writer takes the whole piece, and some front of it where a failure was answered
-abbrev pub WritesOn : Put → List ℕ → Option (List ℕ) → Option (List ℕ) → Type 0
-WritesOn write.Done piece old new = Appends old new piece
-WritesOn write.Failed piece old new = (count : ℕ) × (count ≤ length piece) × Appends old new (take count piece)
+abbrev pub WriterTakes : Put → List ℕ → Option (List ℕ) → Option (List ℕ) → Type 0
+WriterTakes write.Done piece old new = Appends old new piece
+WriterTakes write.Failed piece old new = (count : ℕ) × (count ≤ length piece) × Appends old new (take count piece)

@@ -17,7 +17,11 @@ pub record SessionScript : Type 0 where
 
 -- a session that waits, of these pieces
 abbrev pub session_of : ℕ → List (List ℕ) → SessionScript
-session_of room pieces = record { told = fresh (flat_map (λ piece. piece) pieces); sizes = map length pieces; room = room }
+session_of room pieces = record {
+  told = fresh (flat_map (λ piece. piece) pieces);
+  sizes = map length pieces;
+  room = room;
+}
 
 -- nothing was done with a session yet
 abbrev pub IsFresh : SessionScript → Type 0
@@ -49,6 +53,7 @@ session_written write.Failed piece s = record s { told = record s.told { write_f
 
 -- what a read does to what a session tells
 abbrev pub ReadsSession : Take → List ℕ → SessionTold → SessionTold → Type 0
-ReadsSession (read.Bytes count) buf before now = (1 ≤ count) × (count ≤ length buf) × TakesOf (take count buf) before now
+ReadsSession (read.Bytes count) buf before now =
+    (1 ≤ count) × (count ≤ length buf) × TakesOf (take count buf) before now
 ReadsSession read.End buf before now = (now ≡ before) × (before.left ≡ [])
 ReadsSession read.Failed buf before now = FailsToTake before now

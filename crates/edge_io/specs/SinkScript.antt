@@ -17,7 +17,8 @@ pub record SinkScript : Type 0 where
 -- A write fails where it is listed, and where so many bytes are more than there is room for.
 abbrev pub write_answer : SinkScript → ℕ → Put
 write_answer s count =
-    if is_listed s.fails (next_count s.calls) || nat_lt s.room (length s.written + count) then write.Failed else write.Done
+    if is_listed s.fails (next_count s.calls) || nat_lt s.room (length s.written + count)
+    then write.Failed else write.Done
 
 -- what an answer leaves: all of the piece, or none of it
 abbrev pub sink_after : Put → List ℕ → SinkScript → SinkScript

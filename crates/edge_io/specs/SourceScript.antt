@@ -15,7 +15,8 @@ pub record SourceScript : Type 0 where
   pub calls : ℕ
   pub faults : ℕ
 
--- A read that is not to fail gives the next piece, or as much of it as the buffer takes, and the end where nothing is left.
+-- A read that is not to fail gives the next piece, or as much of it as the buffer takes, and the end where nothing is
+-- left.
 abbrev pub read_answer : SourceScript → ℕ → Take
 read_answer s room =
     if is_listed s.fails (next_count s.calls) then read.Failed
@@ -29,6 +30,10 @@ buffer_after read.Failed left buf = buf
 
 -- what an answer leaves
 abbrev pub source_after : Take → SourceScript → SourceScript
-source_after (read.Bytes count) s = record s { left = drop count s.left; sizes = sizes_behind count s.sizes; calls = next_count s.calls }
+source_after (read.Bytes count) s = record s {
+  left = drop count s.left;
+  sizes = sizes_behind count s.sizes;
+  calls = next_count s.calls;
+}
 source_after read.End s = record s { calls = next_count s.calls }
 source_after read.Failed s = record s { calls = next_count s.calls; faults = next_count s.faults }

@@ -149,7 +149,8 @@ wire_read result s = record s {
 abbrev pub wire_write_answer : WireScript → ℕ → Put
 wire_write_answer s count = elim s.current [
   | None ↦ write.Failed
-  | Some session ↦ if is_listed s.fails (next_count s.calls) || is_too_long session count then write.Failed else write.Done
+  | Some session ↦
+      if is_listed s.fails (next_count s.calls) || is_too_long session count then write.Failed else write.Done
 ]
 
 -- the count of faults behind a write

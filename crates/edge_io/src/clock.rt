@@ -93,7 +93,8 @@ impl ScriptClock {
     /// The moves made, and none once the clock tells nothing.
     pub fn moves(&self) -> &[Move]
         ensures script { result.now ≡ moves_of self.now.told }
-        ensures told { IfSome (⟦<ScriptClock as Clock>⟧.told self.now) (λ told. result.now ≡ told.moves) }
+        ensures told { IfSome (⟦<ScriptClock as Clock>⟧.told self.now)
+            (λ told. result.now ≡ told.moves) }
     {
         if self.is_telling { &self.moves } else { &[] }
     }

@@ -33,7 +33,12 @@ impl Model for Correction {
 
     ghost Value = { Correction };
 
-    ghost view = { λ c. record { moved = c.moved; slew = c.slew; passed = c.passed; seen = c.seen } };
+    ghost view = { λ c. record {
+      moved = c.moved;
+      slew = c.slew;
+      passed = c.passed;
+      seen = c.seen;
+    } };
 }
 
 impl Correction {
@@ -89,7 +94,8 @@ impl Correction {
     /// The moment, where it is one that a clock reads, when the machine's clock reads so many ticks.
     pub(crate) fn reading(&self, machine: u128) -> Option<i64>
         requires { machine < 2 ^ 100 }
-        ensures { let moment = pos machine +ℤ ahead_of self.now in SomeIff result (IsReading moment) moment }
+        ensures { let moment = pos machine +ℤ ahead_of self.now in
+            SomeIff result (IsReading moment) moment }
     {
         reading_of(self.ahead().saturating_add(machine as i128))
     }

@@ -1,18 +1,19 @@
 //! The devices behind the traits of `edge_traits`: objects in memory, and the devices of the machine.
 //!
-//! It hands on the traits, their answers and the datagrams of `edge_traits`, so that the layers above name this
-//! crate alone.
+//! The layers that only speak of devices stand on `edge_traits` alone. Those that make devices, as main and the
+//! tests, stand on this crate too; it hands on the traits and their answers.
 //!
-//! An object in memory (`ScriptSource`, `ScriptSink`, `ScriptClock`) is seen as the record of what it will do:
-//! what it has to give, its room, which of its calls fail, how many were made, and its count of faults. Beside
-//! the clauses of its trait each call says its answer and the next record by these, and leaves nothing open. A
-//! call that fails uses nothing up. The memory of the lists is taken when the object is made.
+//! An object in memory (`ScriptSource`, `ScriptSink`, `ScriptLink`, `ScriptClock`, `ScriptEntropy`, `ScriptWire`) is
+//! seen as the record of what it will do: what it has to give, its room, which of its calls fail, how many were made,
+//! and its count of faults. Beside the clauses of its trait each call says its answer and the next record by these,
+//! and leaves nothing open. A call that fails uses nothing up. The memory of the lists is taken when the object is
+//! made.
 //!
-//! An adapter (`ReaderSource`, `WriterSink`, `RealClock`) tells nothing, and says what it makes of what the
-//! reader, the writer or the machine's clock gave. What these give is trusted.
+//! An adapter (`ReaderSource`, `WriterSink`, `RealClock`) tells nothing, and says what it makes of what the reader,
+//! the writer or the machine's clock gave. What these give is trusted. `NullSink` takes all and keeps nothing.
 //!
-//! The definitions stand in `specs/`: `SourceScript`, `SinkScript`, `ClockScript` and `Calls` for the objects,
-//! `Held`, `CorrectedClock` and `Correction` for the adapters. Those of the traits are handed on.
+//! The definitions stand in `specs/`: a file of its own for each object, `Calls`, `Pieces` and `SessionScript` for
+//! their parts, `Held`, `CorrectedClock` and `Correction` for the adapters. Those of the traits are handed on.
 #![tactic(auto)]
 
 mod calls;

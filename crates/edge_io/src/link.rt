@@ -100,7 +100,8 @@ impl ScriptLink {
     /// The sends tried, and none once the link tells nothing.
     pub fn sends(&self) -> &[Tried]
         ensures script { result.now ≡ sends_of self.now.told }
-        ensures told { IfSome (⟦<ScriptLink as Link>⟧.told self.now) (λ told. result.now ≡ told.sends) }
+        ensures told { IfSome (⟦<ScriptLink as Link>⟧.told self.now)
+            (λ told. result.now ≡ told.sends) }
     {
         if self.is_telling { &self.sent } else { &[] }
     }
@@ -122,7 +123,9 @@ impl ScriptLink {
 
     /// Tells a send, or nothing from now on.
     fn keep_send(&mut self, tried: Tried)
-        ensures { self.new ≡ record self.old { told = with_send self.old.room tried self.old.told } }
+        ensures { self.new ≡ record self.old {
+          told = with_send self.old.room tried self.old.told;
+        } }
     {
         if self.sent.len() >= self.room || self.sent.push(tried).is_err() {
             self.is_telling = false;
@@ -131,7 +134,9 @@ impl ScriptLink {
 
     /// Tells a receipt, or nothing from now on.
     fn keep_receipt(&mut self, receipt: Receipt)
-        ensures { self.new ≡ record self.old { told = with_receipt self.old.room receipt self.old.told } }
+        ensures { self.new ≡ record self.old {
+          told = with_receipt self.old.room receipt self.old.told;
+        } }
     {
         if self.given.len() >= self.room || self.given.push(receipt).is_err() {
             self.is_telling = false;
@@ -149,7 +154,8 @@ impl Link for ScriptLink {
             (record { to = to; bytes = take 256 bytes.now; put = result } ∷ []) }
         ensures cause { PutCounts result self.old.faults self.new.faults }
         ensures answer { result ≡ send_answer self.old }
-        ensures script { self.new ≡ link_sent (record { to = to; bytes = take 256 bytes.now; put = result }) self.old }
+        ensures script { self.new ≡ link_sent
+            (record { to = to; bytes = take 256 bytes.now; put = result }) self.old }
     {
         let put = if self.calls.fails_now() {
             Put::Failed

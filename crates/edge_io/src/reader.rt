@@ -2,7 +2,7 @@
 ghost use Rattle.std.specs.Prelude.{◌≡◌, ◌≢◌, ◌<◌, ◌≤◌, IfErr, IfOk, None, length};
 ghost use Rattle.std.specs.IoError.{error_kind};
 ghost use Rattle.std.specs.Io.KnownBytes.{ReadConsumes};
-ghost use Rattle.edge_io.specs.Held.{ReadsOn};
+ghost use Rattle.edge_io.specs.Held.{ReaderGives};
 ghost use Rattle.edge_traits.specs.Source.{Gives, TakeCounts};
 
 use edge_traits::{Source, Take};
@@ -49,7 +49,7 @@ impl<R: Read> Source for ReaderSource<R> {
         requires { 0 < length buf.old }
         ensures bytes { Gives result buf.new None None }
         ensures cause { TakeCounts result self.old.faults self.new.faults }
-        ensures content { ReadsOn result buf.new
+        ensures content { ReaderGives result buf.new
             (R.remaining self.old.inner) (R.remaining self.new.inner) }
     {
         match read_again(&mut self.reader, buf) {
@@ -66,7 +66,8 @@ impl<R: Read> Source for ReaderSource<R> {
 /// Reads, and again as long as a signal cuts the read short. It gives up after 2^64 - 1 of them.
 fn read_again<R: Read>(reader: &mut R, buf: &mut [u8]) -> io::Result<usize>
     ensures within { IfOk result (λ count. count ≤ length buf.new) }
-    ensures content { ReadConsumes (R.remaining reader.old) (R.remaining reader.new) result buf.new }
+    ensures content { ReadConsumes (R.remaining reader.old) (R.remaining reader.new)
+        result buf.new }
     ensures no_signal { IfErr result (λ error. error_kind error ≢ ErrorKind.Interrupted) }
 {
     for _ in 0..u64::MAX {

@@ -1,7 +1,7 @@
 //! The machine's clock.
-ghost use Rattle.std.specs.Prelude.{◌≡◌, ◌+◌, ◌/◌, ◌<◌, ◌^◌, [], ◌∷◌, pos, IfSome, None};
+ghost use Rattle.std.specs.Prelude.{◌≡◌, ℕ, ◌+◌, ◌/◌, ◌<◌, ◌^◌, [], ◌∷◌, pos, IfSome, None, Option};
 ghost use Rattle.std.specs.Duration.{as_nanos};
-ghost use Rattle.edge_io.specs.CorrectedClock.{BeginsSlew, ReadsCorrected, with_step};
+ghost use Rattle.edge_io.specs.CorrectedClock.{ReadsAt, slewed_at, with_step};
 ghost use Rattle.edge_traits.specs.Clock.{MadeMoves, ReadingCounts, Reads};
 
 use crate::correction::Correction;
@@ -57,6 +57,35 @@ impl<R: rt::Clock + Drop> RealClock<R> {
     }
 }
 
+impl<R: rt::Clock + Drop> RealClock<R> {
+    /// The reading, where the machine's clock reads so many ticks or can't be had.
+    fn read_at(&mut self, machine: Option<u128>) -> Reading
+        requires { IfSome machine (λ ticks. ticks < 2 ^ 100) }
+        ensures gives { Reads result None None }
+        ensures cause { ReadingCounts result self.old.faults self.new.faults }
+        ensures corrected { ReadsAt machine result self.old self.new }
+    {
+        if let Some(machine) = machine {
+            self.correction.look(machine);
+            if let Some(moment) = self.correction.reading(machine) {
+                return Reading::At(moment);
+            }
+        }
+        self.faults = self.faults.saturating_add(1);
+        Reading::Failed
+    }
+
+    /// Begins to move the clock bit by bit, where the machine's clock reads so many ticks or can't be had.
+    fn slew_at(&mut self, machine: Option<u128>, amount: i64)
+        ensures { self.new ≡ slewed_at machine amount self.old }
+    {
+        if let Some(machine) = machine {
+            self.correction.look(machine);
+        }
+        self.correction.slew(amount);
+    }
+}
+
 impl<R: rt::Clock + Drop> Clock for RealClock<R> {
     ghost use Rattle.std.specs.Prelude.{None};
 
@@ -67,16 +96,10 @@ impl<R: rt::Clock + Drop> Clock for RealClock<R> {
     fn now(&mut self) -> Reading
         ensures gives { Reads result None None }
         ensures cause { ReadingCounts result self.old.faults self.new.faults }
-        ensures corrected { ReadsCorrected result self.old self.new }
+        ensures corrected { (machine : Option ℕ) × ReadsAt machine result self.old self.new }
     {
-        if let Some(machine) = machine_ticks(&self.rt) {
-            self.correction.look(machine);
-            if let Some(moment) = self.correction.reading(machine) {
-                return Reading::At(moment);
-            }
-        }
-        self.faults = self.faults.saturating_add(1);
-        Reading::Failed
+        let machine = machine_ticks(&self.rt);
+        self.read_at(machine)
     }
 
     fn step(&mut self, amount: i64)
@@ -91,12 +114,10 @@ impl<R: rt::Clock + Drop> Clock for RealClock<R> {
     fn slew(&mut self, amount: i64)
         ensures moves { MadeMoves None None (Move.Slew amount ∷ []) }
         ensures cause { self.new.faults ≡ self.old.faults }
-        ensures correction { BeginsSlew amount self.old self.new }
+        ensures correction { (machine : Option ℕ) × (self.new ≡ slewed_at machine amount self.old) }
     {
-        if let Some(machine) = machine_ticks(&self.rt) {
-            self.correction.look(machine);
-        }
-        self.correction.slew(amount);
+        let machine = machine_ticks(&self.rt);
+        self.slew_at(machine, amount);
     }
 }
 

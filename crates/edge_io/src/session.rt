@@ -38,7 +38,8 @@ impl Model for HeldSession {
       room = s.room;
     } };
 
-    ghost invariant = { λ s. (length s.written.items ≤ s.room) × (s.room ≤ vec_capacity s.written) };
+    ghost invariant = { λ s. (length s.written.items ≤ s.room)
+        × (s.room ≤ vec_capacity s.written) };
 }
 
 impl HeldSession {
@@ -49,7 +50,8 @@ impl HeldSession {
         room: usize,
     ) -> Result<HeldSession, NoMemory>
         requires { All (λ piece. 0 < length piece.items) pieces.now }
-        ensures script { IfOk result (λ s. s ≡ session_of room (map (λ piece. piece.items) pieces.now)) }
+        ensures script { IfOk result
+            (λ s. s ≡ session_of room (map (λ piece. piece.items) pieces.now)) }
         ensures fresh { IfOk result IsFresh }
     {
         let mut bytes = Vec::new(alloc);
@@ -75,7 +77,8 @@ impl HeldSession {
     pub(crate) fn read(&mut self, buf: &mut [u8], is_due: bool) -> Take
         requires { 0 < length buf.old }
         ensures bytes { ReadsSession result buf.new self.old.told self.new.told }
-        ensures answer { result ≡ (if is_due then Take.Failed else session_answer self.old (length buf.old)) }
+        ensures answer { result
+            ≡ (if is_due then Take.Failed else session_answer self.old (length buf.old)) }
         ensures buffer { buf.new ≡ buffer_after result self.old.told.left buf.old }
         ensures script { self.new ≡ session_read result self.old }
     {
@@ -91,7 +94,8 @@ impl HeldSession {
 
     /// Writes, and fails where it is to and where there is no room.
     pub(crate) fn write(&mut self, piece: &[u8], is_due: bool) -> Put
-        ensures answer { result ≡ (if is_due || is_too_long self.old (length piece.now) then Put.Failed else Put.Done) }
+        ensures answer { result
+            ≡ (if is_due || is_too_long self.old (length piece.now) then Put.Failed else Put.Done) }
         ensures script { self.new ≡ session_written result piece.now self.old }
     {
         if is_due

@@ -1,11 +1,12 @@
 //! Sessions from memory.
-ghost use Rattle.std.specs.Prelude.{◌≡◌, ◌<◌, true, false, [], All, IfOk, IfSome, Some, None, map, length, slice_index_or};
+ghost use Rattle.std.specs.Prelude.{◌≡◌, ◌<◌, true, false, [], All, IfOk, IfSome, None, Some};
+ghost use Rattle.std.specs.Prelude.{length, map, slice_index_or};
 ghost use Rattle.std.specs.Option.{is_some};
 ghost use Rattle.edge_io.specs.SessionScript.{session_of, IsFresh, SessionScript};
 ghost use Rattle.edge_io.specs.SourceScript.{buffer_after};
-ghost use Rattle.edge_io.specs.WireScript.{begun, closed_up, faults_behind_write, first_session, next_answer, opened_of, told_of};
-ghost use Rattle.edge_io.specs.WireScript.{with_answer, wire_opened, wire_read, wire_read_answer, wire_write_answer};
-ghost use Rattle.edge_io.specs.WireScript.{wire_written};
+ghost use Rattle.edge_io.specs.WireScript.{begun, closed_up, faults_behind_write, first_session};
+ghost use Rattle.edge_io.specs.WireScript.{next_answer, opened_of, told_of, with_answer, wire_opened};
+ghost use Rattle.edge_io.specs.WireScript.{wire_read, wire_read_answer, wire_write_answer, wire_written};
 ghost use Rattle.edge_traits.specs.Sink.{PutCounts};
 ghost use Rattle.edge_traits.specs.Source.{TakeCounts};
 ghost use Rattle.edge_traits.specs.Wire.{is_session, OpenedCounts, Opens, WireReads, WireWrites};
@@ -41,7 +42,8 @@ pub struct ScriptWire {
 }
 
 impl Model for ScriptWire {
-    ghost use Rattle.std.specs.Prelude.{◌≡◌, ◌+◌, ◌<◌, ◌≤◌, true, All, length, Some, None, if◌then◌else◌, vec_capacity};
+    ghost use Rattle.std.specs.Prelude.{◌≡◌, ◌+◌, ◌<◌, ◌≤◌, true, if◌then◌else◌, All, length};
+    ghost use Rattle.std.specs.Prelude.{None, Some, vec_capacity};
     ghost use Rattle.std.specs.Option.{is_some, option_to_list};
     ghost use Rattle.edge_io.specs.SessionScript.{IsFresh};
     ghost use Rattle.edge_io.specs.WireScript.{IsCounted, WireScript};
@@ -81,9 +83,11 @@ impl ScriptWire {
         fails: Vec<u64>,
         room: usize,
     ) -> Result<ScriptWire, NoMemory>
-        requires { All (λ pieces. All (λ piece. 0 < length piece.items) pieces.items) sessions.items }
+        requires { All (λ pieces. All (λ piece. 0 < length piece.items) pieces.items)
+            sessions.items }
         ensures script { IfOk result (λ w. w ≡ record {
-          waiting = map (λ pieces. session_of room (map (λ piece. piece.items) pieces.items)) sessions.items;
+          waiting = map (λ pieces. session_of room (map (λ piece. piece.items) pieces.items))
+            sessions.items;
           closed = [];
           current = None;
           earlier = Some [];
@@ -155,7 +159,8 @@ impl ScriptWire {
         ensures any { result ≡ is_some (first_session self.old.waiting) }
         ensures script { result ≡ true → self.new ≡ begun self.old }
         ensures none { result ≡ false → self.new ≡ self.old }
-        ensures told { result ≡ true → Opens Opened.Session (told_of self.old) (told_of self.new) }
+        ensures told { result ≡ true
+            → Opens Opened.Session (told_of self.old) (told_of self.new) }
     {
         let Some(session) = self.waiting.pop_front() else {
             return false;
@@ -214,7 +219,8 @@ impl Wire for ScriptWire {
 
     fn read(&mut self, buf: &mut [u8]) -> Take
         requires { 0 < length buf.old }
-        ensures bytes { WireReads result (is_some self.old.current) buf.new (told_of self.old) (told_of self.new) }
+        ensures bytes { WireReads result (is_some self.old.current) buf.new
+            (told_of self.old) (told_of self.new) }
         ensures no_session { is_some self.old.current ≡ false → result ≡ Take.End }
         ensures open { is_some self.new.current ≡ is_some self.old.current }
         ensures cause { TakeCounts result self.old.faults self.new.faults }
@@ -236,7 +242,8 @@ impl Wire for ScriptWire {
 
     fn write(&mut self, piece: &[u8]) -> Put
         requires { 0 < length piece.now }
-        ensures bytes { WireWrites result (is_some self.old.current) piece.now (told_of self.old) (told_of self.new) }
+        ensures bytes { WireWrites result (is_some self.old.current) piece.now
+            (told_of self.old) (told_of self.new) }
         ensures no_session { is_some self.old.current ≡ false → result ≡ Put.Failed }
         ensures open { is_some self.new.current ≡ is_some self.old.current }
         ensures cause { PutCounts result self.old.write_faults self.new.write_faults }

@@ -2,7 +2,7 @@
 ghost use Rattle.std.specs.Prelude.{◌≡◌, ◌≢◌, ◌<◌, ◌≤◌, ℕ, IfErr, IfOk, IsTrue, None, length, take};
 ghost use Rattle.std.specs.IoError.{error_kind};
 ghost use Rattle.std.specs.Io.KnownBytes.{Appends, Keeps, WriteAppends};
-ghost use Rattle.edge_io.specs.Held.{WritesOn};
+ghost use Rattle.edge_io.specs.Held.{WriterTakes};
 ghost use Rattle.edge_traits.specs.Sink.{PutCounts, Writes};
 
 use edge_traits::{Put, Sink};
@@ -49,7 +49,7 @@ impl<W: Write> Sink for WriterSink<W> {
         requires { 0 < length piece.now }
         ensures bytes { Writes result piece.now None None }
         ensures cause { PutCounts result self.old.faults self.new.faults }
-        ensures content { WritesOn result piece.now
+        ensures content { WriterTakes result piece.now
             (W.contents self.old.inner) (W.contents self.new.inner) }
     {
         if write_whole(&mut self.writer, piece) {
@@ -63,7 +63,8 @@ impl<W: Write> Sink for WriterSink<W> {
 
 /// Writes all of the bytes, and says whether it could.
 fn write_whole<W: Write>(writer: &mut W, piece: &[u8]) -> bool
-    ensures whole { IsTrue result → Appends (W.contents writer.old) (W.contents writer.new) piece.now }
+    ensures whole { IsTrue result
+        → Appends (W.contents writer.old) (W.contents writer.new) piece.now }
     ensures front { (count : ℕ) × (count ≤ length piece.now)
         × Appends (W.contents writer.old) (W.contents writer.new) (take count piece.now) }
 {
@@ -80,7 +81,8 @@ fn write_whole<W: Write>(writer: &mut W, piece: &[u8]) -> bool
 /// Writes, and again as long as a signal cuts the write short. It gives up after 2^64 - 1 of them.
 fn write_again<W: Write>(writer: &mut W, piece: &[u8]) -> io::Result<usize>
     ensures within { IfOk result (λ count. count ≤ length piece.now) }
-    ensures content { WriteAppends (W.contents writer.old) (W.contents writer.new) result piece.now }
+    ensures content { WriteAppends (W.contents writer.old) (W.contents writer.new)
+        result piece.now }
     ensures no_signal { IfErr result (λ error. error_kind error ≢ ErrorKind.Interrupted) }
 {
     for _ in 0..u64::MAX {
