@@ -10,7 +10,7 @@ use Rattle.dc_sign.specs.declared.outcome.Answer.{Answer}
 use Rattle.dc_sign.specs.declared.outcome.Answer.TheVariants.{Signed, Plain}
 use Rattle.dc_sign.specs.Info.{IsLocalInfo}
 use Rattle.dc_sign.specs.Reply.{Answers}
-use Rattle.dc_sign.proofs.Replies.{reply_some}
+use Rattle.dc_sign.proofs.Replies.{replied, reply_some}
 use Rattle.w32tm_cmd.specs.Seen.{Seen, ReadsInput}
 use Rattle.w32tm_cmd.specs.Sign.{request_limit, Prepares}
 
@@ -25,32 +25,26 @@ reads_input limit before now buf n size fills same =
       no_fault = same;
     }
 
--- an answer that has a reply is a signed one
-pub is_signed : (accounts : List Account) (info : ServerInfo) (bytes : List ℕ) (t2 t3 : ℤ) (answer : Answer) (reply : List ℕ)
-    → Answers accounts info bytes t2 t3 answer → (answer ≡ Signed reply) ⊎ (answer ≡ Plain reply) → Answers accounts info bytes t2 t3 (Signed reply)
-is_signed accounts info bytes t2 t3 answer reply answers (inl is) = subst (Answers accounts info bytes t2 t3) is answers
-is_signed accounts info bytes t2 t3 answer reply answers (inr is) = absurd (subst (Answers accounts info bytes t2 t3) is answers)
-
 -- what was read and answered with a reply
 pub prepares : (account : Account) (before now : Seen) (input : List ℕ) (t2 t3 : ℤ) (info : ServerInfo) (answer : Answer) (reply : List ℕ)
     → ReadsInput request_limit before now input → GaveReadings before.clock now.clock (t2 ∷ t3 ∷ []) → now.clock_faults ≡ before.clock_faults
     → IsLocalInfo t2 info → Answers (account ∷ []) info input t2 t3 answer → (answer ≡ Signed reply) ⊎ (answer ≡ Plain reply)
     → Prepares account before now reply
 prepares account before now input t2 t3 info answer reply read readings no_fault local answers is =
-    let signed = is_signed (account ∷ []) info input t2 t3 answer reply answers is in
+    let answered = replied (account ∷ []) info input t2 t3 answer reply answers is in
     record {
       input = input;
       t2 = t2;
       t3 = t3;
       info = info;
       takes = record { read = read; readings = readings; no_clock_fault = no_fault };
-      accepted = signed.0;
+      accepted = answered.0;
       local = local;
-      is_reply = signed.1;
+      is_reply = answered.1;
     }
 
 -- a reply is not empty
 pub answer_some : (accounts : List Account) (info : ServerInfo) (bytes : List ℕ) (t2 t3 : ℤ) (answer : Answer) (reply : List ℕ)
     → Answers accounts info bytes t2 t3 answer → (answer ≡ Signed reply) ⊎ (answer ≡ Plain reply) → 0 < length reply
 answer_some accounts info bytes t2 t3 answer reply answers is =
-    reply_some accounts info bytes t2 t3 reply (is_signed accounts info bytes t2 t3 answer reply answers is).1
+    reply_some accounts info bytes t2 t3 reply (replied accounts info bytes t2 t3 answer reply answers is).1

@@ -8,10 +8,10 @@ use std::alloc::{AllocError, Global};
 use std::test::Fail;
 
 // 1 January 2020, in ticks.
-const NOON: i64 = 132_223_104_000_000_000;
+const NEW_YEAR: i64 = 132_223_104_000_000_000;
 
 // What the clock gives after it.
-const LATER: i64 = NOON + 10_000;
+const LATER: i64 = NEW_YEAR + 10_000;
 
 const WORD: &str = "/sign:1103:00000000000000000000000000000000";
 
@@ -55,7 +55,7 @@ const STEADY: Script<'static> = Script {
     failing_reads: &[],
     failing_readings: &[],
     failing_writes: &[],
-    room: 100,
+    room: 1000,
 };
 
 /// How a run ended: its status, the bytes written, how many of the input are left, and what the clock gives
@@ -100,7 +100,7 @@ fn run(alloc: Global, texts: &[&str], input: &[u8], script: &Script) -> Result<R
         out: ScriptSink::new(alloc, script.failing_writes.to_vec(alloc)?, script.room)?,
         clock: ScriptClock::new(
             alloc,
-            [NOON, LATER].to_vec(alloc)?,
+            [NEW_YEAR, LATER].to_vec(alloc)?,
             script.failing_readings.to_vec(alloc)?,
             0,
         )?,
@@ -134,6 +134,76 @@ fn signs_the_sample_request(rt: HostRuntime) -> Result<(), Fail> {
     Ok(())
 }
 
+/// Words, what stands behind the sample's header in a request, how many zeros behind that, and what stands behind the
+/// sample's header in the reply.
+type Answered = (&'static str, &'static [u8], usize, &'static [u8]);
+
+// A header alone; the previous key, twice; and extended requests, under the current and the previous key and of the
+// greatest RID. The checksums of the short ones are those of `REPLY`, under the key of zeros. Those of the extended ones
+// are OpenSSL's: `echo HEADER | xxd -r -p | openssl dgst -sha512 -mac HMAC -macopt hexkey:DERIVED`, where DERIVED is what
+// `openssl kdf -keylen 64 -kdfopt mac:HMAC -kdfopt digest:SHA512 -kdfopt mode:counter -kdfopt hexkey:KEY -kdfopt
+// hexsalt:736e74702d6d73 -kdfopt hexinfo:RID KBKDF` prints, without its colons.
+const ANSWERED: [Answered; 6] = [
+    ("/sign:1103:00000000000000000000000000000000", b"", 0, b""),
+    (
+        "/sign:1103:a5a5a5a5a5a5a5a5a5a5a5a5a5a5a5a5:00000000000000000000000000000000",
+        b"\x4F\x04\x00\x80",
+        16,
+        b"\x4F\x04\x00\x80\xA1\xED\x97\xBF\x99\x6D\x9C\xD9\x4E\x95\xA2\xAE\x0F\x55\x9A\x86",
+    ),
+    (
+        "/sign:2147483647:a5a5a5a5a5a5a5a5a5a5a5a5a5a5a5a5:00000000000000000000000000000000",
+        b"\xFF\xFF\xFF\xFF",
+        16,
+        b"\xFF\xFF\xFF\xFF\xA1\xED\x97\xBF\x99\x6D\x9C\xD9\x4E\x95\xA2\xAE\x0F\x55\x9A\x86",
+    ),
+    (
+        "/sign:1103:00000000000000000000000000000000",
+        b"\x4F\x04\x00\x00\xFF\xFE\x00\x77",
+        64,
+        b"\x4F\x04\x00\x00\x00\x00\x01\x01\x80\xE9\x3B\x24\x1F\xE2\x60\xF7\xE0\x58\xFC\xFE\
+          \x8B\x0F\xE9\xBE\x27\x7C\xAE\xE4\xB5\xC6\xFE\xE0\xC0\x2F\xA5\x42\x06\xEE\x02\x27\
+          \xC6\x88\x3B\x83\x2B\x60\x54\x3B\x4E\x20\x86\x19\x4D\x69\x74\xAE\xF9\x0A\xC3\x78\
+          \x1C\x3C\xFC\x62\x7C\x68\x65\x58\xC6\x56\xE5\x37",
+    ),
+    (
+        "/sign:1103:00000000000000000000000000000000:a5a5a5a5a5a5a5a5a5a5a5a5a5a5a5a5",
+        b"\x4F\x04\x00\x00\x00\x01\x01\x00",
+        64,
+        b"\x4F\x04\x00\x00\x00\x01\x01\x01\x22\x95\x86\x8E\x6F\xC6\xC5\x14\x68\xA3\xF5\xCA\
+          \xFA\xBD\x89\xE8\x74\xB0\x76\xBD\x44\x2C\x73\xE2\x09\xC2\x9F\xD9\xD0\x70\xBF\x78\
+          \x57\x3F\x9D\xE8\xF1\x48\xE4\xB5\xB8\x51\x17\xC9\xCF\x51\x54\x6E\xF4\x4B\xDC\x8A\
+          \x11\x65\xA1\xDF\xE3\x16\x74\xD4\x26\x0D\xB0\x3E",
+    ),
+    (
+        "/sign:4294967295:00000000000000000000000000000000",
+        b"\xFF\xFF\xFF\xFF\x00\x00\x01\x00",
+        64,
+        b"\xFF\xFF\xFF\xFF\x00\x00\x01\x01\xD6\x56\xB6\xF9\x1B\x63\x38\x6F\xC1\x99\x5C\xBB\
+          \x53\x01\x8F\x7D\x96\x36\x74\x64\xBB\x3C\x05\x0E\xFA\xBF\x4C\x14\x1C\x0C\xAF\x37\
+          \xB1\xA7\x2B\xBD\xD3\xD4\x2C\x49\x40\x49\x62\x57\x78\x91\x22\x7C\x3A\x13\xF3\x2B\
+          \x8E\xD0\xAD\x95\xC6\xF0\x66\x75\xE6\x3D\xB6\x85",
+    ),
+];
+
+#[test]
+fn answers_each_kind_under_both_keys(rt: HostRuntime) -> Result<(), Fail> {
+    let alloc = rt.alloc();
+    for (word, behind, zeros, reply) in ANSWERED {
+        let mut request = REQUEST[..48].to_vec(alloc)?;
+        request.extend_from_slice(behind)?;
+        for _ in 0..zeros {
+            request.push(0)?;
+        }
+        let ran = run(alloc, &[word], request.as_slice(), &STEADY)?;
+        assert_eq!(rt; ran.status, Status::Done, "{word}");
+        assert_eq!(rt; ran.written.len(), request.len(), "{word}");
+        assert!(rt; ran.written.starts_with(&REPLY[..48]), "{word}");
+        assert!(rt; ran.written.ends_with(reply), "{word}");
+    }
+    Ok(())
+}
+
 #[test]
 fn refusals_of_the_controller(rt: HostRuntime) -> Result<(), Fail> {
     let alloc = rt.alloc();
@@ -149,7 +219,7 @@ fn refusals_of_the_controller(rt: HostRuntime) -> Result<(), Fail> {
         assert_eq!(rt; ran.status, Status::BadRequest { reason });
         assert!(rt; ran.written.is_empty());
     }
-    for (len, left) in [(0, 0), (48, 0), (67, 0), (69, 0), (257, 0), (300, 43)] {
+    for (len, left) in [(0, 0), (67, 0), (69, 0), (72, 0), (257, 0), (300, 43)] {
         let request = vec![in alloc; 0xDB; len]?;
         let ran = run(alloc, &[WORD], &request, &STEADY)?;
         let reason = Refusal::BadLength;
@@ -160,21 +230,80 @@ fn refusals_of_the_controller(rt: HostRuntime) -> Result<(), Fail> {
     Ok(())
 }
 
+// `/show` of the sample request, and its lines.
+const SHOW: &str =
+    "/show:db000ae90000000000000000000000000000000000000000000000000000000000000000000000000000\
+                    0001000000074f04000000000000000000000000000000000000";
+
+const LINES: [&str; 5] = [
+    "leap=3 version=3 mode=3 stratum=0 poll=10 precision=-23\n",
+    "rootdelay=0 rootdispersion=0 refid=00000000\n",
+    "reference=0000000000000000 originate=0000000000000000\n",
+    "receive=0000000000000000 transmit=0000000100000007\n",
+    "tail=short keyid=0000044f checksum=00000000000000000000000000000000\n",
+];
+
+#[test]
+fn shows_the_sample_request(rt: HostRuntime) -> Result<(), Fail> {
+    let mut lines = Vec::new(rt.alloc());
+    for line in LINES {
+        lines.extend_from_slice(line.as_bytes())?;
+    }
+    let ran = run(rt.alloc(), &[SHOW], &REQUEST, &STEADY)?;
+    assert_eq!(rt; ran.status, Status::Done);
+    assert_eq!(rt; ran.written.as_slice(), lines.as_slice());
+    assert_eq!(rt; ran.left, 68);
+    assert_eq!(rt; ran.next, Reading::At(NEW_YEAR));
+    Ok(())
+}
+
+// The lines before the one whose write fails stay, also where that one has no room.
+#[test]
+fn shows_up_to_a_failed_write(rt: HostRuntime) -> Result<(), Fail> {
+    let mut due = Vec::new(rt.alloc());
+    for (number, line) in LINES.iter().enumerate() {
+        let failing = Script {
+            failing_writes: &[number as u64 + 1],
+            ..STEADY
+        };
+        let short = Script {
+            room: due.len().saturating_add(line.len() / 2),
+            ..STEADY
+        };
+        for script in [failing, short] {
+            let ran = run(rt.alloc(), &[SHOW], &REQUEST, &script)?;
+            assert_eq!(rt; ran.status, Status::WriteFault);
+            assert_eq!(rt; ran.written.as_slice(), due.as_slice());
+        }
+        due.extend_from_slice(line.as_bytes())?;
+    }
+    Ok(())
+}
+
+#[test]
+fn other_lengths_are_bad(rt: HostRuntime) -> Result<(), Fail> {
+    let alloc = rt.alloc();
+    for len in [0, 1, 47, 49, 67, 69, 72, 119, 121, 256] {
+        let mut word = String::from_str(alloc, "/show:")?;
+        for _ in 0..len {
+            word.push_str("00")?;
+        }
+        let ran = run(alloc, &[word.as_str()], &REQUEST, &STEADY)?;
+        let reason = Refusal::BadLength;
+        assert_eq!(rt; ran.status, Status::BadRequest { reason }, "{len} bytes");
+        assert!(rt; ran.written.is_empty(), "{len} bytes");
+        assert_eq!(rt; ran.left, 68, "{len} bytes");
+        assert_eq!(rt; ran.next, Reading::At(NEW_YEAR), "{len} bytes");
+    }
+    Ok(())
+}
+
 // Words that spell no command.
-const BAD_WORDS: [&[&str]; 15] = [
+const BAD_WORDS: [&[&str]; 6] = [
     &[],
-    &[""],
-    &["/show:00"],
-    &["/sign"],
-    &["/sign:1103"],
-    &["/SIGN:1103:00000000000000000000000000000000"],
-    &["/sign::00000000000000000000000000000000"],
+    &["/show:0"],
     &["/sign:01103:00000000000000000000000000000000"],
-    &["/sign:+5:00000000000000000000000000000000"],
-    &["/sign:4294967296:00000000000000000000000000000000"],
-    &["/sign:1103:0000000000000000000000000000000"],
-    &["/sign:1103:000000000000000000000000000000000"],
-    &["/sign:1103:0000000000000000000000000000000g"],
+    &["/sign:1103:00000000000000000000000000000000:"],
     &[WORD, ""],
     &[WORD, WORD],
 ];
@@ -197,40 +326,48 @@ const FAULTS: [Row; 7] = [
         &[1],
         &[],
         &[],
-        100,
+        1000,
         Status::ReadFault,
         68,
-        Reading::At(NOON),
+        Reading::At(NEW_YEAR),
     ),
     (
         &[2],
         &[],
         &[],
-        100,
+        1000,
         Status::ReadFault,
         38,
-        Reading::At(NOON),
+        Reading::At(NEW_YEAR),
     ),
-    (&[3], &[], &[], 100, Status::ReadFault, 0, Reading::At(NOON)),
+    (
+        &[3],
+        &[],
+        &[],
+        1000,
+        Status::ReadFault,
+        0,
+        Reading::At(NEW_YEAR),
+    ),
     (
         &[],
         &[1],
         &[],
-        100,
+        1000,
         Status::ClockFault,
         0,
-        Reading::At(NOON),
+        Reading::At(NEW_YEAR),
     ),
     (
         &[],
         &[2],
         &[],
-        100,
+        1000,
         Status::ClockFault,
         0,
         Reading::At(LATER),
     ),
-    (&[], &[], &[1], 100, Status::WriteFault, 0, Reading::Failed),
+    (&[], &[], &[1], 1000, Status::WriteFault, 0, Reading::Failed),
     (&[], &[], &[], 67, Status::WriteFault, 0, Reading::Failed),
 ];
 
@@ -241,7 +378,7 @@ fn bad_words_and_first_faults(rt: HostRuntime) -> Result<(), Fail> {
         assert_eq!(rt; ran.status, Status::BadWords, "{words:?}");
         assert!(rt; ran.written.is_empty(), "{words:?}");
         assert_eq!(rt; ran.left, 68, "{words:?}");
-        assert_eq!(rt; ran.next, Reading::At(NOON), "{words:?}");
+        assert_eq!(rt; ran.next, Reading::At(NEW_YEAR), "{words:?}");
     }
     for (reads, readings, writes, room, status, left, next) in FAULTS {
         let script = Script {
