@@ -1,4 +1,9 @@
 pub mod Asked
 pub mod Asking
+pub mod Counting
 pub mod Info
+pub mod Numbers
 pub mod Reply
+pub mod Sending
+pub mod Serving
+pub mod Turns

@@ -1,0 +1,38 @@
+-- What one turn does with link and clock.
+use Rattle.std.specs.Prelude.{◌≡◌, ◌+◌, ◌<◌, ℕ, ℤ, List, [], ◌∷◌, length, Option}
+use Rattle.base_specs.specs.Counts.{FailsTimes}
+use Rattle.edge_traits.specs.Clock.{ClockTold, GaveReadings}
+use Rattle.edge_traits.specs.Link.{failed_receipts, failed_sends}
+use Rattle.key_book.specs.declared.account.Account.{Account}
+use Rattle.dc_sign.specs.declared.tally.Outcome.{Outcome}
+use Rattle.dc_sign.specs.declared.tally.ServeEnd.{ServeEnd}
+use Rattle.dc_sign.specs.declared.tally.ServeWhy.TheVariants.{Done}
+use Rattle.dc_sign.specs.Numbers.{numbers_of}
+use Rattle.dc_sign.specs.Serving.{Exchanged, IsTurn, Seen, Takes, Turn, outcomes_of}
+
+-- this turn was taken
+pub record TakesTurn (accounts : List Account) (turn : Turn) (before now : Seen) : Type 0 where
+  pub is_turn : IsTurn accounts turn
+  pub exchanged : Exchanged before.link now.link (turn.receipt ∷ []) turn.sends
+  pub read : GaveReadings before.clock now.clock turn.readings
+  pub link_failed : FailsTimes (failed_receipts (turn.receipt ∷ []) + failed_sends turn.sends) before.link_faults now.link_faults
+  pub no_clock_fault : now.clock_faults ≡ before.clock_faults
+
+-- a turn was taken, of which this came
+pub record TakesOne (accounts : List Account) (before now : Seen) (outcome : Outcome) : Type 0 where
+  pub turn : Turn
+  pub is : turn.outcome ≡ outcome
+  pub takes : TakesTurn accounts turn before now
+
+-- fewer readings than the limit were given, and no move was made
+pub record GaveFewer (limit : ℕ) (old new : Option ClockTold) : Type 0 where
+  pub given : List ℤ
+  pub fewer : length given < limit
+  pub readings : GaveReadings old new given
+
+-- so many turns were taken, and they were counted
+pub record HasServed (accounts : List Account) (count : ℕ) (before now : Seen) (numbers : ServeEnd) : Type 0 where
+  pub taken : List Turn
+  pub size : length taken ≡ count
+  pub takes : Takes accounts taken before now
+  pub counted : numbers ≡ numbers_of (outcomes_of taken) Done
