@@ -101,6 +101,7 @@ impl Sink for ScriptSink {
 }
 
 /// It takes every piece, keeps nothing and tells nothing.
+#[derive(Drop)]
 pub struct NullSink;
 
 impl Sink for NullSink {

@@ -1,10 +1,12 @@
 //! The objects in memory as tables, and each adapter once.
-ghost use Rattle.std.specs.Prelude.{◌<◌, All, IfOk};
+ghost use Rattle.std.specs.Prelude.{◌<◌, All, IfOk, length};
 ghost use Rattle.base_specs.specs.Time.{IsReading};
+ghost use Rattle.edge_io.specs.LinkScript.{IsNoFailure};
 
 use crate::{
-    Clock, Move, Put, ReaderSource, Reading, ScriptClock, ScriptSink, ScriptSource, Sink, Source,
-    Take, WriterSink,
+    Addr, Clock, Datagram, Drawn, Entropy, Link, Move, NullSink, Opened, Put, ReaderSource,
+    Reading, Receipt, ScriptClock, ScriptEntropy, ScriptLink, ScriptSink, ScriptSource, ScriptWire,
+    Sink, Source, Take, Wire, WriterSink,
 };
 use std::alloc::{AllocError, Global};
 use std::io::{self, ErrorKind, Read, Write};
@@ -173,6 +175,219 @@ fn clocks_tell_moves_while_there_is_room(rt: HostRuntime) -> Result<(), Fail> {
     Ok(())
 }
 
+/// Where receipts come from.
+const PEER: Addr = Addr {
+    ip: 0x0A00_0001,
+    port: 40_000,
+};
+
+/// Another address.
+const OTHER: Addr = Addr {
+    ip: 0xFFFF_FFFF,
+    port: 123,
+};
+
+/// The receipt of these bytes from the peer, or a quiet one, which is ".".
+fn receipt_of(text: &str) -> Receipt
+    ensures { IsNoFailure result }
+{
+    if text == "." {
+        Receipt::Quiet
+    } else {
+        Receipt::got(PEER, Datagram::from_slice(text.as_bytes()))
+    }
+}
+
+/// The receipts of these texts.
+fn receipts_of(alloc: Global, texts: &[&str]) -> Result<Vec<Receipt>, AllocError>
+    ensures { IfOk result (λ receipts. All IsNoFailure receipts.items) }
+{
+    let mut receipts = Vec::new(alloc);
+    for text in texts {
+        receipts.push(receipt_of(text))?;
+    }
+    Ok(receipts)
+}
+
+/// Receives: the bytes are wanted from the peer, "!" for Failed, and "." for a quiet one.
+fn wants_receipts<L: Link>(rt: &impl Abort, link: &mut L, wanted: &[&str]) {
+    for want in wanted {
+        match link.recv() {
+            Receipt::Got(from, bytes) => {
+                assert_eq!(rt; from, PEER);
+                assert_eq!(rt; bytes.as_slice(), want.as_bytes());
+            }
+            Receipt::Quiet => assert_eq!(rt; *want, "."),
+            Receipt::Failed => assert_eq!(rt; *want, "!"),
+        }
+    }
+}
+
+#[test]
+fn links_give_their_receipts(rt: HostRuntime) -> Result<(), Fail> {
+    let alloc = rt.alloc();
+    let rows: [(&[&str], &[u64], &[&str]); 3] = [
+        (&[], &[], &[".", "."]),
+        (&["ab", ".", "c"], &[2], &["ab", "!", ".", "c", "."]),
+        (&["ab"], &[1, 3], &["!", "ab", "!", "."]),
+    ];
+    for (texts, fails, wanted) in rows {
+        let receipts = receipts_of(alloc, texts)?;
+        let mut link = ScriptLink::new(alloc, receipts, fails.to_vec(alloc)?, 0)?;
+        wants_receipts(&rt, &mut link, wanted);
+    }
+    Ok(())
+}
+
+#[test]
+fn links_tell_sends_while_there_is_room(rt: HostRuntime) -> Result<(), Fail> {
+    let alloc = rt.alloc();
+    let receipts = receipts_of(alloc, &["ab", "c", "d"])?;
+    let mut link = ScriptLink::new(alloc, receipts, [3].to_vec(alloc)?, 2)?;
+    assert_eq!(rt; link.send(PEER, b"x"), Put::Done);
+    wants_receipts(&rt, &mut link, &["ab"]);
+    assert_eq!(rt; link.send(OTHER, &[7; 300]), Put::Failed);
+    let wanted: [(Addr, usize, Put); 2] = [(PEER, 1, Put::Done), (OTHER, 256, Put::Failed)];
+    assert_eq!(rt; link.sends().len(), wanted.len());
+    for (sent, (to, len, put)) in link.sends().iter().zip(wanted) {
+        assert_eq!(rt; sent.to, to);
+        assert_eq!(rt; sent.bytes.as_slice().len(), len);
+        assert_eq!(rt; sent.put, put);
+    }
+    // There is room for two receipts, as for two sends.
+    wants_receipts(&rt, &mut link, &["c", "d"]);
+    assert!(rt; link.sends().is_empty());
+    Ok(())
+}
+
+#[test]
+fn entropies_give_their_words(rt: HostRuntime) -> Result<(), Fail> {
+    let alloc = rt.alloc();
+    let words = [7, u32::MAX, 7].to_vec(alloc)?;
+    let mut entropy = ScriptEntropy::new(alloc, words, [2].to_vec(alloc)?, 0)?;
+    for want in [
+        Drawn::Word(7),
+        Drawn::Failed,
+        Drawn::Word(u32::MAX),
+        Drawn::Word(7),
+        Drawn::Failed,
+    ] {
+        assert_eq!(rt; entropy.word(), want);
+    }
+    Ok(())
+}
+
+/// The pieces among these that aren't empty.
+fn pieces_of(alloc: Global, texts: &[&str]) -> Result<Vec<Vec<u8>>, AllocError>
+    ensures { IfOk result (λ pieces. All (λ piece. 0 < length piece.items) pieces.items) }
+{
+    let mut pieces = Vec::new(alloc);
+    for text in texts {
+        let piece = text.as_bytes().to_vec(alloc)?;
+        if piece.len() > 0 {
+            pieces.push(piece)?;
+        }
+    }
+    Ok(pieces)
+}
+
+/// Two sessions, of eight bytes and of one.
+fn two_sessions(alloc: Global) -> Result<Vec<Vec<Vec<u8>>>, AllocError>
+    ensures { IfOk result (λ sessions.
+        All (λ pieces. All (λ piece. 0 < length piece.items) pieces.items) sessions.items) }
+{
+    let mut sessions = Vec::new(alloc);
+    sessions.push(pieces_of(alloc, &["abc", "defgh"])?)?;
+    sessions.push(pieces_of(alloc, &["x"])?)?;
+    Ok(sessions)
+}
+
+/// A call of a wire and what is wanted of it.
+#[derive(Clone, Copy)]
+enum Step<'a> {
+    /// A request for a session.
+    Open(Opened),
+    /// A read into four bytes: these, "!" for Failed, and "." for the end.
+    Read(&'a str),
+    /// A write of these bytes.
+    Write(&'a str, Put),
+}
+
+fn wants_step<W: Wire>(rt: &impl Abort, wire: &mut W, step: Step<'_>) {
+    match step {
+        Step::Open(opened) => assert_eq!(rt; wire.next_session(), opened),
+        Step::Read(want) => {
+            let mut buf = [b'-'; 4];
+            match wire.read(&mut buf) {
+                Take::Bytes(count) => assert_eq!(rt; &buf[..count], want.as_bytes()),
+                Take::End => assert_eq!(rt; want, "."),
+                Take::Failed => assert_eq!(rt; want, "!"),
+            }
+        }
+        Step::Write(piece, put) => {
+            if !piece.is_empty() {
+                assert_eq!(rt; wire.write(piece.as_bytes()), put);
+            }
+        }
+    }
+}
+
+#[test]
+fn wires_open_their_sessions(rt: HostRuntime) -> Result<(), Fail> {
+    let alloc = rt.alloc();
+    // The failing calls, the calls, and what was written to the sessions that were opened.
+    let rows: [(&[u64], &[Step], &[&str]); 3] = [
+        (
+            &[],
+            &[
+                Step::Read("."),
+                Step::Write("a", Put::Failed),
+                Step::Open(Opened::Session),
+                Step::Read("abc"),
+                Step::Write("12", Put::Done),
+                Step::Read("defg"),
+                Step::Write("345", Put::Failed),
+                Step::Write("34", Put::Done),
+                Step::Read("h"),
+                Step::Read("."),
+                Step::Open(Opened::Session),
+                Step::Write("5", Put::Done),
+                Step::Read("x"),
+                Step::Open(Opened::NoMore),
+                Step::Read("."),
+                Step::Write("a", Put::Failed),
+                Step::Open(Opened::NoMore),
+            ],
+            &["1234", "5"],
+        ),
+        (
+            &[1, 3, 5],
+            &[
+                Step::Open(Opened::Failed),
+                Step::Open(Opened::Session),
+                Step::Read("!"),
+                Step::Read("abc"),
+                Step::Write("1", Put::Failed),
+                Step::Write("1", Put::Done),
+                Step::Read("defg"),
+            ],
+            &["1"],
+        ),
+        (&[2], &[Step::Open(Opened::Session), Step::Open(Opened::Failed), Step::Read(".")], &[""]),
+    ];
+    for (fails, steps, written) in rows {
+        let mut wire = ScriptWire::new(alloc, two_sessions(alloc)?, fails.to_vec(alloc)?, 4)?;
+        for step in steps {
+            wants_step(&rt, &mut wire, *step);
+        }
+        assert_eq!(rt; wire.opened(), written.len());
+        for session in 0..wire.opened() {
+            assert_eq!(rt; Some(wire.written(session)), written.get(session).map(|text| text.as_bytes()));
+        }
+    }
+    Ok(())
+}
+
 #[test]
 fn readers_and_writers(rt: HostRuntime) -> Result<(), Fail> {
     let mut source = ReaderSource::new(b"abcdef".as_slice());
@@ -182,6 +397,7 @@ fn readers_and_writers(rt: HostRuntime) -> Result<(), Fail> {
     assert_eq!(rt; sink.write(b"ab"), Put::Done);
     assert_eq!(rt; sink.write(b"cde"), Put::Done);
     assert_eq!(rt; bytes.as_slice(), b"abcde".as_slice());
+    assert_eq!(rt; NullSink.write(b"ab"), Put::Done);
     Ok(())
 }
 

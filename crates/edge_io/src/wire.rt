@@ -125,6 +125,16 @@ impl ScriptWire {
         })
     }
 
+    /// How many sessions were opened.
+    pub fn opened(&self) -> usize
+        ensures { result ≡ length (opened_of self.now) }
+    {
+        match self.current {
+            Some(_) => self.closed.len() + 1,
+            None => self.closed.len(),
+        }
+    }
+
     /// The bytes written to a session that was opened, the first of which is 0.
     pub fn written(&self, session: usize) -> &[u8]
         requires { session < length (opened_of self.now) }
