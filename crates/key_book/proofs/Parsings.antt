@@ -42,7 +42,7 @@ one_pair a None b (Some old_b) text p q =
     absurd (is_there 32 q.0 q.1 (rw q.2 at no_blank))
 
 -- a line spells one account
-one_account : (a b : Account) (line : List ℕ) → SpellsAccount a line → SpellsAccount b line → a ≡ b
+pub one_account : (a b : Account) (line : List ℕ) → SpellsAccount a line → SpellsAccount b line → a ≡ b
 one_account a b line p q =
     let rest = ap (λ (l : List ℕ). drop 8 l) (sym p.words ∙ q.words) in
     let small_a : a.rid < 2 ^ 64 = omega (arith, p.fits) in
