@@ -1,0 +1,67 @@
+//! The program `digest_rate`: it signs one message many times over, and prints what is left.
+//!
+//! `digest_rate short 1000` and `digest_rate extended 1000` sign the sample request of a member so often. The first key
+//! is 16 zero bytes, and each later one the first 16 bytes of the checksum before it, so no signature can be left out.
+//! The last of them is printed, and `bench/digests.sh` takes the time. It stands on `ms_auth`, whose contracts say what a
+//! checksum is; nothing more is promised here.
+#![tactic(auto)]
+
+use ms_auth::{Kind, Tail, request, sign};
+use ntp_wire::Stamp;
+use std::process::ExitCode;
+use std::{env, io};
+
+/// Bytes in a key.
+const KEY_LEN: usize = 16;
+
+/// The RID, the poll exponent and the timestamp of the sample request.
+const RID: u32 = 1103;
+
+const POLL: u8 = 10;
+
+const STAMP: Stamp = Stamp {
+    seconds: 1,
+    fraction: 7,
+};
+
+fn main(rt: HostRuntime) -> ExitCode {
+    match run(&rt) {
+        Ok(()) => ExitCode::from(0),
+        Err(_) => ExitCode::from(1),
+    }
+}
+
+/// Reads the kind and the count, signs, and prints.
+fn run(rt: &HostRuntime) -> io::Result<()> {
+    let mut words = env::args(rt)?.skip(1);
+    let kind = match words.next() {
+        Some(word) if word.as_str() == "extended" => Kind::Extended,
+        _ => Kind::Short,
+    };
+    let count = match words.next() {
+        Some(word) => word.parse().unwrap_or(1),
+        None => 1,
+    };
+    println!(rt; "{:032x}", u128::from_be_bytes(signed_often(kind, count)))
+}
+
+/// The first bytes of the last of so many checksums.
+fn signed_often(kind: Kind, count: u32) -> [u8; KEY_LEN] {
+    let unsigned = request(kind, RID, POLL, STAMP);
+    let mut key = [0; KEY_LEN];
+    for _ in 0..count {
+        key = next_key(&sign(&unsigned, &key).tail);
+    }
+    key
+}
+
+/// The first bytes of the checksum of a tail.
+fn next_key(tail: &Tail) -> [u8; KEY_LEN] {
+    let mut key = [0; KEY_LEN];
+    match tail {
+        Tail::Plain => {}
+        Tail::Short68 { sum, .. } => key = *sum,
+        Tail::Ext120 { sum, .. } => key.copy_from_slice(&sum[..KEY_LEN]),
+    }
+    key
+}
