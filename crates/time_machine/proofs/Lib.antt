@@ -1,0 +1,6 @@
+pub mod After
+pub mod Laws
+pub mod One
+pub mod Joins
+pub mod Positions
+pub mod Gathers

@@ -1,0 +1,69 @@
+-- What holds of each history that grows.
+use Rattle.std.specs.Prelude.{◌≢◌, IfSome, ℕ, ◌<◌, ◌≤◌, ◌==◌, List, [], ◌∷◌, ◌++◌, length, Some, None, ◌≡◌}
+use Rattle.std.specs.List.{AllByRecursion, IsDistinct}
+use Rattle.capture_fmt.specs.declared.event.Event.{Event}
+use Rattle.time_machine.specs.declared.conf.Conf.{Conf}
+use Rattle.time_machine.specs.Events.{History, is_life, mark_of}
+use Rattle.time_machine.specs.Told.{Told, request_of, count_moved}
+use Rattle.time_machine.specs.Words.{all_sent, greatest_count, words}
+use Rattle.time_machine.specs.Machine.{told, outcome_at, outcomes, posted_by, moves_by, requests_of, moves_of, source_of}
+use Rattle.time_machine.specs.Report.{line_of, report_of}
+use Rattle.time_machine.specs.Growing.{Grows}
+use Rattle.time_machine.specs.Line.{up_to_last}
+
+-- each count that was sent is above all those that were sent before it
+abbrev pub CountsRise : List Told → Type 0
+CountsRise [] = Unit {0}
+CountsRise (t ∷ before) = IfSome (request_of t) (λ r. AllByRecursion (λ earlier. earlier.count < r.count) (all_sent before)) × CountsRise before
+
+abbrev pub LawOfCounts : Type 0
+LawOfCounts = (conf : Conf) (history : History) → Grows conf history → CountsRise (told conf history)
+
+-- no earlier arrival was accepted for this count
+abbrev pub IsFirstMove : ℕ → List Told → Type 0
+IsFirstMove count before = AllByRecursion (λ t. count_moved t.outcome ≢ Some count) before
+
+-- no two accepted arrivals answer the same request
+abbrev pub MovesOnce : List Told → Type 0
+MovesOnce [] = Unit {0}
+MovesOnce (t ∷ before) = IfSome (count_moved t.outcome) (λ count. IsFirstMove count before) × MovesOnce before
+
+abbrev pub LawOfMoves : Type 0
+LawOfMoves = (conf : Conf) (history : History) → Grows conf history → MovesOnce (told conf history)
+
+-- an accepted arrival answers no request of an earlier life
+abbrev pub LawOfLives : Type 0
+LawOfLives = (conf : Conf) (history : History) (e : Event) → Grows conf history →
+    IfSome (count_moved (outcome_at conf history e))
+    (λ count. AllByRecursion (λ r. r.count ≢ count) (all_sent (up_to_last (λ t. is_life t.event) (told conf history))))
+
+-- at most eight requests are open
+abbrev pub LawOfRoom : Type 0
+LawOfRoom = (conf : Conf) (history : History) → Grows conf history → length (words conf (told conf history)).open_requests ≤ 8
+
+-- no two open requests have the same count, so that an arrival answers one of them at most
+abbrev pub LawOfOne : Type 0
+LawOfOne = (conf : Conf) (history : History) → Grows conf history → IsDistinct (λ a b. a.count == b.count) (words conf (told conf history)).open_requests
+
+-- each Life's mark is at least this count
+abbrev pub MarksAtLeast : ℕ → History → Type 0
+MarksAtLeast count [] = Unit {0}
+MarksAtLeast count (e ∷ history) = IfSome (mark_of e) (λ mark. count ≤ mark) × MarksAtLeast count history
+
+-- A history that grows may come after another one, if each of its Lives' marks is at least every count of that one. The events of both then lead to what they lead to by themselves.
+abbrev pub LawOfJoins : Type 0
+LawOfJoins = (conf : Conf) (newer older : History) → Grows conf older → Grows conf newer → MarksAtLeast (greatest_count (told conf older)) newer →
+    Grows conf (newer ++ older) × (outcomes conf (newer ++ older) ≡ outcomes conf older ++ outcomes conf newer)
+
+-- one more event adds what it leads to
+abbrev pub LawOfMore : Type 0
+LawOfMore = (conf : Conf) (history : History) (e : Event) →
+    (outcomes conf (e ∷ history) ≡ outcomes conf history ++ outcome_at conf history e ∷ [])
+    × (requests_of conf (e ∷ history) ≡ requests_of conf history ++ posted_by (outcome_at conf history e))
+    × (moves_of conf (e ∷ history) ≡ moves_of conf history ++ moves_by (outcome_at conf history e))
+    × (report_of conf (e ∷ history) ≡ report_of conf history ++ line_of (outcome_at conf history e))
+
+-- before the first event nothing was sent, moved or written
+abbrev pub LawOfNone : Type 0
+LawOfNone = (conf : Conf) →
+    (outcomes conf [] ≡ []) × (requests_of conf [] ≡ []) × (moves_of conf [] ≡ []) × (report_of conf [] ≡ []) × (source_of conf [] ≡ None) × Grows conf []

@@ -1,0 +1,12 @@
+pub mod Line
+pub mod Events
+pub mod Told
+pub mod Words
+pub mod Fields
+pub mod Verdict
+pub mod Machine
+pub mod Report
+pub mod Growing
+pub mod After
+pub mod Laws
+pub mod Positions

@@ -1,0 +1,38 @@
+//! Laws of the time machine.
+ghost use Rattle.time_machine.specs.Laws.{LawOfCounts, LawOfJoins, LawOfLives, LawOfMore, LawOfMoves, LawOfNone, LawOfOne, LawOfRoom};
+ghost use Rattle.time_machine.specs.Positions.{LawOfBase, LawOfChanges, LawOfEight, LawOfFirst, LawOfGreatest, LawOfLifeWords, LawOfNothing, LawOfOpen, LawOfPoll, LawOfPrefix, LawOfSince, LawOfSource, LawOfThisLife, LawOfUnset};
+
+/// What holds of each history that grows, whatever is in it.
+pub fn laws_of_histories()
+    // Each count that is sent is above all those that were sent before it.
+    ensures counts { LawOfCounts }
+    // No two accepted arrivals answer the same request, and none answers one of an earlier life.
+    ensures moves { LawOfMoves }
+    ensures lives { LawOfLives }
+    // At most eight requests are open, and an arrival answers one of them at most.
+    ensures room { LawOfRoom }
+    ensures one { LawOfOne }
+    // One history may come after another.
+    ensures joins { LawOfJoins }
+    // Each event adds what it leads to.
+    ensures none { LawOfNone }
+    ensures more { LawOfMore }
+{}
+
+/// What the words of the machine say of positions in a history.
+pub fn laws_of_positions()
+    ensures since { LawOfSince }
+    ensures life { LawOfThisLife }
+    ensures life_words { LawOfLifeWords }
+    ensures base { LawOfBase }
+    ensures nothing { LawOfNothing }
+    ensures partner { LawOfSource }
+    ensures changes { LawOfChanges }
+    ensures poll { LawOfPoll }
+    ensures unset { LawOfUnset }
+    ensures open_requests { LawOfOpen }
+    ensures eight { LawOfEight }
+    ensures greatest { LawOfGreatest }
+    ensures first { LawOfFirst }
+    ensures prefix { LawOfPrefix }
+{}
