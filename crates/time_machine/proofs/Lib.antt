@@ -1,6 +1,7 @@
 pub mod After
-pub mod Laws
+pub mod Counting
 pub mod One
 pub mod Joins
 pub mod Positions
 pub mod Gathers
+pub mod Open

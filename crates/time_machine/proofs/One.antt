@@ -8,7 +8,7 @@ use Rattle.time_machine.specs.Told.{Told, is_turning_point, request_of}
 use Rattle.time_machine.specs.Words.{words, all_sent, some_of}
 use Rattle.time_machine.specs.Machine.{told}
 use Rattle.time_machine.specs.Laws.{CountsRise, LawOfOne}
-use Rattle.time_machine.proofs.Laws.{all_push, all_weaken, counts_rise}
+use Rattle.time_machine.proofs.Counting.{all_push, all_weaken, counts_rise}
 
 pub all_split : {A : Type 0} (P : A → Type 0) (xs ys : List A) → AllByRecursion P (xs ++ ys) → AllByRecursion P xs × AllByRecursion P ys
 all_split P [] ys h = (tt, h)

@@ -17,7 +17,7 @@ use Rattle.time_machine.specs.Machine.{told, told_by}
 use Rattle.time_machine.specs.Growing.{Grows, MayFollow}
 use Rattle.time_machine.specs.Events.{word_of, is_life, is_reset, reading_of, mark_of}
 use Rattle.time_machine.specs.Positions.{LawOfSince, LawOfThisLife, LawOfLifeWords, LawOfBase, LawOfSource, LawOfNothing, LawOfChanges, LawOfPoll, LawOfEight, LawOfGreatest, LawOfFirst, LawOfPrefix}
-use Rattle.time_machine.proofs.Laws.{counts_low}
+use Rattle.time_machine.proofs.Counting.{counts_low}
 use Rattle.time_machine.proofs.One.{all_split}
 
 from_last_at : {A : Type 0} (test : A → Bool) (newer older : List A) (x : A) → AllByRecursion (λ y. test y ≡ false) newer → test x ≡ true →

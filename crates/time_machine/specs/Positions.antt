@@ -1,11 +1,12 @@
 -- What the words say of positions: a line of entries is the newer ones, the one at a position, and the older ones.
 use Rattle.std.specs.Prelude.{◌≡◌, ◌↔◌, ◌≤◌, ◌||◌, ℕ, true, false, List, [], ◌∷◌, ◌++◌, length, Some, None, IsSome}
-use Rattle.std.specs.List.{AllByRecursion}
+use Rattle.std.specs.List.{AllByRecursion, Contains}
 use Rattle.capture_fmt.specs.declared.event.Event.{Event}
 use Rattle.time_machine.specs.declared.conf.Conf.{Conf}
+use Rattle.time_machine.specs.declared.outcome.Request.{Request}
 use Rattle.time_machine.specs.Line.{count_of}
 use Rattle.time_machine.specs.Told.{Told, is_turning_point, is_accepted, has_sent, base_left, offset_moved}
-use Rattle.time_machine.specs.Words.{words, since, life_at, poll_set, all_sent}
+use Rattle.time_machine.specs.Words.{words, since, life_at, poll_set, all_sent, IsOpen}
 use Rattle.time_machine.specs.Machine.{told}
 use Rattle.time_machine.specs.Growing.{Grows}
 use Rattle.time_machine.specs.Events.{History, is_life, is_reset, reading_of, mark_of}
@@ -52,6 +53,10 @@ LawOfChanges = (conf : Conf) (newer older : List Told) (t : Told) → AllByRecur
 abbrev pub LawOfPoll : Type 0
 LawOfPoll = (conf : Conf) (newer older : List Told) (t : Told) → AllByRecursion (λ s. is_turning_point s ≡ false) newer → is_turning_point t ≡ true →
     (words conf (newer ++ t ∷ older)).poll ≡ poll_set conf.limits (offset_moved t.outcome) (words conf older).poll
+
+-- the open requests are those that events from the last turning point on have sent
+abbrev pub LawOfOpen : Type 0
+LawOfOpen = (conf : Conf) (before : List Told) (r : Request) → IsOpen before r ↔ Contains (words conf before).open_requests r
 
 -- so many requests are open as events sent from the last turning point on
 abbrev pub LawOfEight : Type 0

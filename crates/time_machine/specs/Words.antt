@@ -1,6 +1,5 @@
 -- What stands at the end of a history. Each word looks back over all that was before, the last event first, and knows no other word.
-use Rattle.std.specs.Prelude.{ℕ, max, List, [], ◌∷◌, ◌++◌, Option, Some, None, ℤ, if◌then◌else◌}
-use Rattle.std.specs.List.{Contains}
+use Rattle.std.specs.Prelude.{◌≡◌, ℕ, max, List, [], ◌∷◌, ◌++◌, Option, Some, None, ℤ, if◌then◌else◌}
 use Rattle.phase_rule.specs.declared.limits.Limits.{Limits}
 use Rattle.phase_rule.specs.Rule.{next_poll}
 use Rattle.time_machine.specs.declared.outcome.Request.{Request}
@@ -26,9 +25,13 @@ abbrev pub all_sent : List Told → List Request
 all_sent [] = []
 all_sent (t ∷ before) = all_sent before ++ some_of (request_of t)
 
--- a request that was sent from the last turning point on: a reply to it may be accepted
-abbrev pub IsOpen : List Told → Request → Type 0
-IsOpen before r = Contains (all_sent (since before)) r
+-- an open request, to which a reply may be accepted: an event from the last turning point on has sent it
+pub record IsOpen (before : List Told) (r : Request) : Type 0 where
+  pub newer : List Told
+  pub event : Told
+  pub older : List Told
+  pub place : since before ≡ newer ++ event ∷ older
+  pub sent : request_of event ≡ Some r
 
 -- the greatest count that was ever sent
 abbrev pub greatest_count : List Told → ℕ

@@ -1,6 +1,6 @@
 //! Laws of the time machine.
 ghost use Rattle.time_machine.specs.Laws.{LawOfCounts, LawOfJoins, LawOfLives, LawOfMore, LawOfMoves, LawOfNone, LawOfOne, LawOfRoom};
-ghost use Rattle.time_machine.specs.Positions.{LawOfBase, LawOfChanges, LawOfEight, LawOfFirst, LawOfGreatest, LawOfLifeWords, LawOfNothing, LawOfOpen, LawOfPoll, LawOfPrefix, LawOfSince, LawOfSource, LawOfThisLife, LawOfUnset};
+ghost use Rattle.time_machine.specs.Positions.{LawOfBase, LawOfChanges, LawOfEight, LawOfFirst, LawOfGreatest, LawOfLifeWords, LawOfNothing, LawOfOpen, LawOfPoll, LawOfPrefix, LawOfSince, LawOfSource, LawOfThisLife};
 
 /// What holds of each history that grows, whatever is in it.
 pub fn laws_of_histories()
@@ -29,7 +29,6 @@ pub fn laws_of_positions()
     ensures partner { LawOfSource }
     ensures changes { LawOfChanges }
     ensures poll { LawOfPoll }
-    ensures unset { LawOfUnset }
     ensures open_requests { LawOfOpen }
     ensures eight { LawOfEight }
     ensures greatest { LawOfGreatest }

@@ -1,0 +1,18 @@
+use Rattle.time_machine.proofs.Joins.{histories_join}
+use Rattle.time_machine.proofs.Counting.{counts_rise, moves_once, moves_live, room_is_left}
+use Rattle.time_machine.proofs.One.{one_open}
+use Rattle.time_machine.proofs.Gathers.{none_leads, more_leads}
+use Rattle.time_machine.proofs.laws.laws_of_histories.Goals as goal
+
+pub returns : goal.returns
+returns c =
+    record {
+      counts = counts_rise;
+      moves = moves_once;
+      lives = moves_live;
+      room = room_is_left;
+      one = one_open;
+      joins = histories_join;
+      none = none_leads;
+      more = more_leads;
+    }
