@@ -2,7 +2,6 @@ pub mod Line
 pub mod Events
 pub mod Told
 pub mod Words
-pub mod Fields
 pub mod Verdict
 pub mod Machine
 pub mod Report

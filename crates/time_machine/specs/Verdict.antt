@@ -8,7 +8,7 @@ use Rattle.ntp_wire.specs.Stamp.{ticks_of}
 use Rattle.ntp_wire.specs.Fields.{leap_of, mode_of, stratum_of, originate_of, receive_of, transmit_of}
 use Rattle.ms_auth.specs.declared.packet.Kind.{Kind}
 use Rattle.ms_auth.specs.declared.packet.Kind.TheVariants.{Short, Extended}
-use Rattle.ms_auth.specs.Fields.{key_id_of, short_rid_of, hash_of}
+use Rattle.ms_auth.specs.Fields.{key_id_of, short_rid_of, hash_of, kind_length, sum_at, digest_at}
 use Rattle.key_book.specs.declared.account.Account.{Account}
 use Rattle.phase_rule.specs.declared.limits.Limits.{Limits}
 use Rattle.phase_rule.specs.declared.rule.Judged.{Judged}
@@ -20,18 +20,13 @@ use Rattle.time_machine.specs.declared.outcome.Reason.TheVariants.{BadLength, Ba
 use Rattle.time_machine.specs.declared.outcome.Outcome.{Outcome}
 use Rattle.time_machine.specs.declared.outcome.Outcome.TheVariants.{Moved, Refused}
 use Rattle.time_machine.specs.declared.conf.Conf.{Conf}
-use Rattle.time_machine.specs.Fields.{sum_at, digest_at}
 use Rattle.time_machine.specs.Words.{Words}
 
 -- ---- The bytes of a reply
 
--- how many bytes a reply has
-abbrev pub length_of : Kind → ℕ
-length_of Short = 68
-length_of Extended = 120
-
+-- it has not the length of a message of this kind
 abbrev pub is_bad_length : Kind → List ℕ → Bool
-is_bad_length kind bytes = not (length bytes == length_of kind)
+is_bad_length kind bytes = not (length bytes == kind_length kind)
 
 -- it is not a server's
 abbrev pub is_bad_mode : List ℕ → Bool
