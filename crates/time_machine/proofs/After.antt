@@ -4,7 +4,7 @@ use Rattle.std.proofs.Math.Nat.{mod-add-mod, mod-mod, zero-max, zero-mod, add-ze
 use Rattle.std.proofs.lemmas.List.{append-nil}
 use Rattle.edge_traits.specs.declared.datagram.Addr.{Addr}
 use Rattle.ntp_wire.specs.Stamp.{ticks_of}
-use Rattle.ntp_wire.specs.Fields.{originate_of, receive_of, transmit_of}
+use Rattle.ntp_wire.specs.Fields.{leap_of, mode_of, stratum_of, originate_of, receive_of, transmit_of}
 use Rattle.phase_rule.specs.declared.rule.Judged.{Judged}
 use Rattle.phase_rule.specs.declared.rule.Judged.TheVariants as judgement
 use Rattle.phase_rule.specs.Rule.{judged}
@@ -71,8 +71,8 @@ pub verdict_cases : (P : Outcome → Type 0) → ((reason : Reason) → P (Refus
 verdict_cases P refused conf w now from bytes moved =
     if_cases P (is_bad_length conf.kind bytes) _ _ (refused BadLength)
     (if_cases P (is_bad_source conf w from) _ _ (refused BadSource)
-    (if_cases P (is_bad_mode bytes) _ _ (refused BadMode)
-    (if_cases P (is_bad_stratum bytes) _ _ (refused BadStratum)
+    (if_cases P (is_bad_mode (mode_of bytes)) _ _ (refused BadMode)
+    (if_cases P (is_bad_stratum (leap_of bytes) (stratum_of bytes)) _ _ (refused BadStratum)
     (verdict_on_cases P refused conf now bytes (find (is_answered now (originate_of bytes)) w.open_requests) moved))))
 
 -- ---- The words after one more event

@@ -29,12 +29,12 @@ abbrev pub is_bad_length : Kind → List ℕ → Bool
 is_bad_length kind bytes = not (length bytes == kind_length kind)
 
 -- it is not a server's
-abbrev pub is_bad_mode : List ℕ → Bool
-is_bad_mode bytes = not (mode_of bytes == 4)
+abbrev pub is_bad_mode : ℕ → Bool
+is_bad_mode mode = not (mode == 4)
 
 -- the sender's clock is not synchronized: the stratum is not 1 to 15, or the leap indicator is 3
-abbrev pub is_bad_stratum : List ℕ → Bool
-is_bad_stratum bytes = nat_lt (stratum_of bytes) 1 || nat_lt 15 (stratum_of bytes) || leap_of bytes == 3
+abbrev pub is_bad_stratum : (leap stratum : ℕ) → Bool
+is_bad_stratum leap stratum = nat_lt stratum 1 || nat_lt 15 stratum || leap == 3
 
 -- Another account is named, or in an extended reply another digest than that of this profile. What else stands in the tail is not looked at, bit 31 of a short key identifier neither.
 abbrev pub is_bad_key_id : Kind → ℕ → List ℕ → Bool
@@ -112,6 +112,6 @@ abbrev pub verdict_at : Conf → Words → ℤ → Addr → List ℕ → Outcome
 verdict_at conf w now from bytes =
     if is_bad_length conf.kind bytes then Refused BadLength
     else if is_bad_source conf w from then Refused BadSource
-    else if is_bad_mode bytes then Refused BadMode
-    else if is_bad_stratum bytes then Refused BadStratum
+    else if is_bad_mode (mode_of bytes) then Refused BadMode
+    else if is_bad_stratum (leap_of bytes) (stratum_of bytes) then Refused BadStratum
     else verdict_on conf now bytes (find (is_answered now (originate_of bytes)) w.open_requests)

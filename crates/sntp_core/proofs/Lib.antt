@@ -1,0 +1,5 @@
+pub mod Carrying
+pub mod Places
+pub mod Reading
+pub mod Standings
+pub mod Times

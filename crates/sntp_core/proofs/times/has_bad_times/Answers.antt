@@ -1,0 +1,17 @@
+use Rattle.std.proofs.Common.{arith, FitsSigned, w64, ◌-ℤ◌, ◌≡◌, false}
+use Rattle.std.specs.Prelude.{int_lt}
+use Rattle.std.proofs.lemmas.Int.{ints, to_z-of_z}
+use Rattle.sntp_core.proofs.Times.{not_below}
+use Rattle.sntp_core.proofs.times.has_bad_times.Goals as goal
+
+pub returns-else-t3-t2 : goal.returns-else-t3-t2
+returns-else-t3-t2 c =
+    let t1 = c.args.t1 in
+    let t2 = c.args.t2 in
+    let t3 = c.args.t3 in
+    let t4 = c.args.t4 in
+    let d1 : FitsSigned w64 (t4 -ℤ t1) = omega (arith, ints) in
+    let d2 : FitsSigned w64 (t3 -ℤ t2) = omega (arith, ints) in
+    let d3 : FitsSigned w64 ((t4 -ℤ t1) -ℤ (t3 -ℤ t2)) = omega (arith, ints) in
+    let e : int_lt t3 t2 ≡ false = not_below t3 t2 (omega (arith, ints)) in
+    rw (to_z-of_z w64 t1 c.ranges.t1, to_z-of_z w64 t2 c.ranges.t2, to_z-of_z w64 t3 c.ranges.t3, to_z-of_z w64 t4 c.ranges.t4, to_z-of_z w64 _ d1, to_z-of_z w64 _ d2, to_z-of_z w64 _ d3, e)
