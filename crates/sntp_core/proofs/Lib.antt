@@ -2,4 +2,4 @@ pub mod Carrying
 pub mod Places
 pub mod Reading
 pub mod Standings
-pub mod Times
+pub mod Signed

@@ -9,7 +9,7 @@ use Rattle.time_machine.specs.Words.{Words, words}
 use Rattle.time_machine.specs.Machine.{told, outcome_by, outcome_at}
 use Rattle.time_machine.specs.Growing.{MayFollow, Grows}
 use Rattle.time_machine.specs.After.{after, kept}
-use Rattle.time_machine.proofs.After.{words_after, outcome_kept, may_follow_kept, coe_by}
+use Rattle.time_machine.proofs.After.{same_words, words_after, outcome_kept, may_follow_kept, coe_by}
 use Rattle.sntp_core.specs.declared.member.Member.{Member}
 use Rattle.sntp_core.specs.Standing.{conf_of, words_of, StandsForHistory, LawOfFollowing}
 
@@ -17,7 +17,7 @@ pub new_words : (conf : Conf) (open_requests : List Request) → open_requests �
     ◌≡◌ {A = Words} (record { mark = None; sent = 0; greatest = 0; base = None; poll = conf.limits.min_poll; changes = 0; open_requests = open_requests; source = None })
     (kept conf (words conf (told conf [])))
 unfolding words told
-new_words conf open_requests e = cc (sym (zero-mod 0), e)
+new_words conf open_requests e = same_words refl refl (sym (zero-mod _)) e refl
 
 pub stands_new : (m : Member) → words_of m ≡ kept (conf_of m) (words (conf_of m) (told (conf_of m) [])) → StandsForHistory m []
 unfolding Grows

@@ -87,10 +87,20 @@ impl Member {
         } else if has_bad_stratum(&packet.header) {
             Outcome::Refused(Reason::BadStratum)
         } else {
-            match self.answered(now, packet.header.originate) {
-                None => Outcome::Refused(Reason::NoRequest),
-                Some(request) => self.reply_verdict(now, packet, &request),
-            }
+            self.server_verdict(now, packet)
+        }
+    }
+
+    /// What a message of the present partner's leads to.
+    fn server_verdict(&self, now: i64, packet: &Packet) -> Outcome
+        requires now { IsReading now }
+        ensures same { result ≡ verdict_on_packet self.now.conf now packet.now
+            (find (is_answered now packet.now.header.originate) self.now.open_requests.items) }
+        ensures small { IsSmall result }
+    {
+        match self.answered(now, packet.header.originate) {
+            None => Outcome::Refused(Reason::NoRequest),
+            Some(request) => self.reply_verdict(now, packet, &request),
         }
     }
 

@@ -78,7 +78,7 @@ verdict_cases P refused conf w now from bytes moved =
 -- ---- The words after one more event
 
 -- what differs between the definitions and the step: the order of a sum, a 0 that is added, and the remainder
-same_words : {mark : Option ℕ} {s s' g g' : ℕ} {base : Option ℤ} {poll c c' : ℕ} {open1 open2 : List Request} {source source' : Option ℕ} →
+pub same_words : {mark : Option ℕ} {s s' g g' : ℕ} {base : Option ℤ} {poll c c' : ℕ} {open1 open2 : List Request} {source source' : Option ℕ} →
     s ≡ s' → g ≡ g' → c ≡ c' → open1 ≡ open2 → source ≡ source' →
     ◌≡◌ {A = Words} (record { mark = mark; sent = s; greatest = g; base = base; poll = poll; changes = c; open_requests = open1; source = source })
     (record { mark = mark; sent = s'; greatest = g'; base = base; poll = poll; changes = c'; open_requests = open2; source = source' })

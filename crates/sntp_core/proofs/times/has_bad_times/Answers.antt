@@ -1,7 +1,7 @@
 use Rattle.std.proofs.Common.{arith, FitsSigned, w64, ◌-ℤ◌, ◌≡◌, false}
 use Rattle.std.specs.Prelude.{int_lt}
 use Rattle.std.proofs.lemmas.Int.{ints, to_z-of_z}
-use Rattle.sntp_core.proofs.Times.{not_below}
+use Rattle.sntp_core.proofs.Signed.{not_below}
 use Rattle.sntp_core.proofs.times.has_bad_times.Goals as goal
 
 pub returns-else-t3-t2 : goal.returns-else-t3-t2

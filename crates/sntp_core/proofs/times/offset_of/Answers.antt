@@ -1,6 +1,6 @@
 use Rattle.std.proofs.Common.{arith, FitsSigned, w64, ◌-ℤ◌, ◌+ℤ◌, ◌<◌, ◌^◌, ◌*◌, unsigned_abs, subst, sym, ℤ, refl}
 use Rattle.std.proofs.lemmas.Int.{ints, to_z-of_z, fits_signed_from_abs}
-use Rattle.sntp_core.proofs.Times.{half_small}
+use Rattle.sntp_core.proofs.Signed.{half_small}
 use Rattle.time_machine.specs.Verdict.{offset_of}
 use Rattle.sntp_core.proofs.times.offset_of.Goals as goal
 
