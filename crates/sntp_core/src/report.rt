@@ -1,0 +1,87 @@
+//! The report line of what an event led to.
+ghost use Rattle.std.specs.Prelude.{◌≡◌, ◌+◌, ◌++◌, ◌≤◌, length};
+ghost use Rattle.time_machine.specs.Report.{addr_text, how_text, line_of, reason_text};
+
+use edge_traits::Addr;
+use line_text::{Line, LineText};
+use time_machine::{How, Outcome, Reason};
+
+/// The line of an outcome, with its line feed; it is empty where nothing was sent.
+pub fn line_of(outcome: &Outcome) -> LineText
+    ensures { result ≡ line_of outcome.now }
+{
+    let mut line = Line::new();
+    match outcome {
+        Outcome::Started { mark } => {
+            line.add_text("life mark=");
+            line.add_number(*mark);
+            line.add_text("\n");
+        }
+        Outcome::Idle => {}
+        Outcome::Sent { to, count, .. } => {
+            line.add_text("send n=");
+            line.add_number(*count);
+            line.add_text(" to=");
+            add_addr(&mut line, *to);
+            line.add_text("\n");
+        }
+        Outcome::Moved { count, offset, how } => {
+            line.add_text("moved n=");
+            line.add_number(*count);
+            line.add_text(" offset=");
+            line.add_number(*offset);
+            line.add_text(" by=");
+            line.add_text(how_text(*how));
+            line.add_text("\n");
+        }
+        Outcome::Refused(reason) => {
+            line.add_text("refused reason=");
+            line.add_text(reason_text(*reason));
+            line.add_text("\n");
+        }
+    }
+    LineText::from_line(&line)
+}
+
+/// Adds an address: its four numbers, the first one the highest byte, and its port.
+fn add_addr(line: &mut Line<96>, addr: Addr)
+    requires { length line.old ≤ 24 }
+    ensures text { line.new ≡ line.old ++ addr_text addr }
+    ensures short { length line.new ≤ length line.old + 49 }
+{
+    line.add_number(addr.ip >> 24);
+    line.add_text(".");
+    line.add_number((addr.ip >> 16) % 256);
+    line.add_text(".");
+    line.add_number((addr.ip >> 8) % 256);
+    line.add_text(".");
+    line.add_number(addr.ip % 256);
+    line.add_text(":");
+    line.add_number(addr.port);
+}
+
+fn how_text(how: How) -> &'static str
+    ensures { result.now ≡ how_text how }
+{
+    match how {
+        How::Slew => "slew",
+        How::Step => "step",
+    }
+}
+
+fn reason_text(reason: Reason) -> &'static str
+    ensures text { result.now ≡ reason_text reason }
+    ensures short { length result.now ≤ 10 }
+{
+    match reason {
+        Reason::BadLength => "BadLength",
+        Reason::BadSource => "BadSource",
+        Reason::BadMode => "BadMode",
+        Reason::BadStratum => "BadStratum",
+        Reason::NoRequest => "NoRequest",
+        Reason::BadKeyId => "BadKeyId",
+        Reason::BadDigest => "BadDigest",
+        Reason::BadTimes => "BadTimes",
+        Reason::TooBig => "TooBig",
+    }
+}
