@@ -5,3 +5,4 @@ pub mod Joins
 pub mod Positions
 pub mod Gathers
 pub mod Open
+pub mod Answered

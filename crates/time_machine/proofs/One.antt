@@ -47,7 +47,7 @@ rise_from test (t ∷ before) h = (
   rise_if (test t) (from_last test before) (rise_from test before h.1),
 )
 
-abbrev same_count : Request → Request → Bool
+abbrev pub same_count : Request → Request → Bool
 same_count a b = a.count == b.count
 
 differ : (m n : ℕ) → m < n → (m == n) ≡ false

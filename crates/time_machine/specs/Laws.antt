@@ -1,11 +1,16 @@
 -- What holds of each history that grows.
-use Rattle.std.specs.Prelude.{◌≢◌, IfSome, ℕ, ◌<◌, ◌≤◌, ◌==◌, List, [], ◌∷◌, ◌++◌, length, Some, None, ◌≡◌}
+use Rattle.std.specs.Prelude.{◌≢◌, IfSome, ℕ, ◌<◌, ◌≤◌, ◌==◌, List, [], ◌∷◌, ◌++◌, length, Some, None, ◌≡◌, ◌↔◌, true, ℤ}
 use Rattle.std.specs.List.{AllByRecursion, IsDistinct}
 use Rattle.capture_fmt.specs.declared.event.Event.{Event}
+use Rattle.base_specs.specs.Time.{IsTicksNear}
+use Rattle.ntp_wire.specs.declared.stamp.Stamp.{Stamp}
+use Rattle.ntp_wire.specs.Stamp.{ticks_of}
 use Rattle.time_machine.specs.declared.conf.Conf.{Conf}
+use Rattle.time_machine.specs.declared.outcome.Request.{Request}
 use Rattle.time_machine.specs.Events.{History, is_life, mark_of}
 use Rattle.time_machine.specs.Told.{Told, request_of, count_moved}
-use Rattle.time_machine.specs.Words.{all_sent, greatest_count, words}
+use Rattle.time_machine.specs.Words.{all_sent, greatest_count, words, IsOpen}
+use Rattle.time_machine.specs.Verdict.{is_answered}
 use Rattle.time_machine.specs.Machine.{told, outcome_at, outcomes, posted_by, moves_by, requests_of, moves_of, source_of}
 use Rattle.time_machine.specs.Report.{line_of, report_of}
 use Rattle.time_machine.specs.Growing.{Grows}
@@ -41,9 +46,18 @@ LawOfLives = (conf : Conf) (history : History) (e : Event) → Grows conf histor
 abbrev pub LawOfRoom : Type 0
 LawOfRoom = (conf : Conf) (history : History) → Grows conf history → length (words conf (told conf history)).open_requests ≤ 8
 
--- no two open requests have the same count, so that an arrival answers one of them at most
+-- no two open requests have the same count
 abbrev pub LawOfOne : Type 0
 LawOfOne = (conf : Conf) (history : History) → Grows conf history → IsDistinct (λ a b. a.count == b.count) (words conf (told conf history)).open_requests
+
+-- an arrival answers one open request at most
+abbrev pub LawOfAnswer : Type 0
+LawOfAnswer = (conf : Conf) (history : History) (now : ℤ) (stamp : Stamp) (a b : Request) → Grows conf history →
+    IsOpen (told conf history) a → IsOpen (told conf history) b → is_answered now stamp a ≡ true → is_answered now stamp b ≡ true → a ≡ b
+
+-- the time at which a timestamp is read near an arrival is the one moment near it that the timestamp stands for
+abbrev pub LawOfTimes : Type 0
+LawOfTimes = (stamp : Stamp) (near t : ℤ) → IsTicksNear stamp.seconds stamp.fraction near t ↔ (t ≡ ticks_of stamp near)
 
 -- each Life's mark is at least this count
 abbrev pub MarksAtLeast : ℕ → History → Type 0

@@ -1,5 +1,5 @@
 //! Laws of the time machine.
-ghost use Rattle.time_machine.specs.Laws.{LawOfCounts, LawOfJoins, LawOfLives, LawOfMore, LawOfMoves, LawOfNone, LawOfOne, LawOfRoom};
+ghost use Rattle.time_machine.specs.Laws.{LawOfAnswer, LawOfCounts, LawOfJoins, LawOfLives, LawOfMore, LawOfMoves, LawOfNone, LawOfOne, LawOfRoom, LawOfTimes};
 ghost use Rattle.time_machine.specs.Positions.{LawOfBase, LawOfChanges, LawOfEight, LawOfFirst, LawOfGreatest, LawOfLifeWords, LawOfNothing, LawOfOpen, LawOfPoll, LawOfPrefix, LawOfSince, LawOfSource, LawOfThisLife};
 
 /// What holds of each history that grows, whatever is in it.
@@ -12,6 +12,9 @@ pub fn laws_of_histories()
     // At most eight requests are open, and an arrival answers one of them at most.
     ensures room { LawOfRoom }
     ensures one { LawOfOne }
+    ensures answer { LawOfAnswer }
+    // Each timestamp of a reply stands for one moment near its arrival.
+    ensures times { LawOfTimes }
     // One history may come after another.
     ensures joins { LawOfJoins }
     // Each event adds what it leads to.

@@ -1,0 +1,66 @@
+-- An arrival answers one open request at most, and its timestamps stand for one moment each.
+use Rattle.std.proofs.Common.{◌≡◌, ℕ, ◌==◌, ◌&&◌, Bool, true, false, List, [], ◌∷◌, ◌⊎◌, inl, inr, refl, sym, ◌∙◌, subst, arith, ℤ}
+use Rattle.std.specs.List.{AllByRecursion, Contains, IsDistinct}
+use Rattle.std.proofs.lemmas.List.Elements.{Contains-append_cases}
+use Rattle.std.proofs.lemmas.Bool.Decides.{Decides-eqb}
+use Rattle.base_specs.specs.Time.{IsTicksNear}
+use Rattle.ntp_wire.specs.declared.stamp.Stamp.{Stamp}
+use Rattle.ntp_wire.specs.Stamp.{ticks_of}
+use Rattle.ntp_wire.proofs.Moments.{ticks_of_is_near, one_moment}
+use Rattle.time_machine.specs.declared.outcome.Request.{Request}
+use Rattle.time_machine.specs.Words.{words}
+use Rattle.time_machine.specs.Machine.{told}
+use Rattle.time_machine.specs.Verdict.{is_answered}
+use Rattle.time_machine.specs.Laws.{LawOfAnswer}
+use Rattle.time_machine.proofs.One.{one_open, same_count}
+use Rattle.time_machine.proofs.Open.{open_at}
+
+-- an element is the first one or a later one
+first_or : (x : Request) (xs : List Request) (r : Request) → Contains (x ∷ xs) r → (x ≡ r) ⊎ Contains xs r
+first_or x xs r c = elim (Contains-append_cases (x ∷ []) xs r c) [
+    inl h ↦ let k : h.0 ≡ 0 = omega (arith, h.1) in inl (rw k at h.2)
+    | inr h ↦ inr h
+  ]
+
+all_have : (P : Request → Type 0) (xs : List Request) (r : Request) → AllByRecursion P xs → Contains xs r → P r
+all_have P [] r h c = absurd (omega (arith, c.1))
+all_have P (x ∷ xs) r h c = elim (first_or x xs r c) [
+    inl e ↦ subst P e h.0
+    | inr k ↦ all_have P xs r h.1 k
+  ]
+
+differ : (a b : Request) → same_count a b ≡ false → a.count ≡ b.count → ⊥
+differ a b n e = let t : same_count a b ≡ true = (Decides-eqb a.count b.count).1 e in cc
+
+one_counted : (xs : List Request) (a b : Request) → IsDistinct same_count xs → Contains xs a → Contains xs b → a.count ≡ b.count → a ≡ b
+unfolding IsDistinct
+one_counted [] a b d c k e = absurd (omega (arith, c.1))
+one_counted (x ∷ xs) a b d c k e = elim (first_or x xs a c) [
+    inl p ↦ elim (first_or x xs b k) [
+      inl q ↦ sym p ∙ q
+      | inr q ↦ absurd (differ x b (all_have (λ y. same_count x y ≡ false) xs b d.0 q) (let s : x.count ≡ b.count = cc in s))
+    ]
+    | inr p ↦ elim (first_or x xs b k) [
+      inl q ↦ absurd (differ x a (all_have (λ y. same_count x y ≡ false) xs a d.0 p) (let s : x.count ≡ a.count = cc in s))
+      | inr q ↦ one_counted xs a b d.1 p q e
+    ]
+  ]
+
+both_true : (a b : Bool) → (a && b) ≡ true → (a ≡ true) × (b ≡ true)
+both_true true b e = (refl, e)
+both_true false b e = cc
+
+counted : (now : ℤ) (stamp : Stamp) (r : Request) → is_answered now stamp r ≡ true → r.count ≡ stamp.seconds
+counted now stamp r e = (Decides-eqb r.count stamp.seconds).0 (both_true _ _ (both_true _ _ (both_true _ _ e).0).0).0
+
+pub one_answered : LawOfAnswer
+one_answered conf history now stamp a b g o p e f =
+    let before = told conf history in
+    one_counted (words conf before).open_requests a b (one_open conf history g) ((open_at conf before a).0 o) ((open_at conf before b).0 p)
+    (counted now stamp a e ∙ sym (counted now stamp b f))
+
+pub one_time : (stamp : Stamp) (near t : ℤ) → IsTicksNear stamp.seconds stamp.fraction near t → t ≡ ticks_of stamp near
+one_time stamp near t h = one_moment stamp near t (ticks_of stamp near) h (ticks_of_is_near stamp near)
+
+pub is_time : (stamp : Stamp) (near t : ℤ) → t ≡ ticks_of stamp near → IsTicksNear stamp.seconds stamp.fraction near t
+is_time stamp near t e = subst (λ u. IsTicksNear stamp.seconds stamp.fraction near u) (sym e) (ticks_of_is_near stamp near)
