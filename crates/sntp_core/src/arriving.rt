@@ -223,7 +223,9 @@ fn names_another(rid: u32, tail: &Tail) -> bool
         Tail::Plain => true,
         Tail::Short68 { key_id, .. } => key_id % (1 << 31) != rid,
         Tail::Ext120 {
-            rid: other, hash, ..
+            rid: other,
+            hash,
+            ..
         } => *other != rid || *hash != HASH,
     }
 }

@@ -6,6 +6,8 @@ mod laws;
 mod member;
 mod report;
 mod sending;
+#[cfg(test)]
+mod tests;
 mod times;
 
 pub use laws::laws_of_members;
