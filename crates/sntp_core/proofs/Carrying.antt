@@ -1,7 +1,6 @@
 -- A message carries its checksum where it is the one that it should carry.
 use Rattle.std.proofs.Common.{◌≡◌, ℕ, List, Bool, true, false, Option, Some, None, refl, sym}
 use Rattle.std.specs.Prelude.{IsTrue, ◌↔◌}
-use Rattle.std.specs.Str.{bytes_eq}
 use Rattle.std.proofs.lemmas.Slice.Eq.{bytes_eq-Decides}
 use Rattle.ms_auth.specs.declared.packet.Packet.{Packet}
 use Rattle.ms_auth.specs.Digest.{digest_of, sum_of, HasDigest}

@@ -1,8 +1,7 @@
 -- The verdict on the message that was read is the verdict on its bytes.
-use Rattle.std.proofs.Common.{◌≡◌, ◌≢◌, ℕ, List, length, Bool, true, false, Option, Some, None, inl, inr, refl, sym, ◌∙◌, ap, arith, if◌then◌else◌, ℤ, find}
+use Rattle.std.proofs.Common.{◌≡◌, ◌≢◌, ℕ, List, length, Bool, true, false, Option, Some, None, inl, inr, refl, ◌∙◌, ap, arith, if◌then◌else◌, ℤ, find}
 use Rattle.std.specs.Prelude.{not, ◌&&◌, ◌||◌, ◌==◌}
 use Rattle.std.specs.Option.{option_map_or}
-use Rattle.std.proofs.lemmas.Bool.Decides.{Decides-eqb}
 use Rattle.edge_traits.specs.declared.datagram.Addr.{Addr}
 use Rattle.ms_auth.specs.declared.packet.Kind.{Kind}
 use Rattle.ms_auth.specs.declared.packet.Kind.TheVariants.{Short, Extended}
@@ -12,7 +11,7 @@ use Rattle.ms_auth.specs.declared.packet.Tail.TheVariants.{Plain, Short68, Ext12
 use Rattle.ms_auth.specs.Fields.{IsTailAt, IsChecksumAt, IsPacketAt, kind_length}
 use Rattle.ms_auth.specs.Packet.{IsPacketLength}
 use Rattle.key_book.specs.declared.account.Account.{Account}
-use Rattle.ntp_wire.specs.Fields.{leap_of, mode_of, stratum_of, originate_of, receive_of, transmit_of}
+use Rattle.ntp_wire.specs.Fields.{stratum_of, transmit_of}
 use Rattle.ntp_wire.specs.Stamp.{ticks_of}
 use Rattle.time_machine.specs.declared.outcome.Request.{Request}
 use Rattle.time_machine.specs.declared.outcome.Outcome.{Outcome}
@@ -21,7 +20,7 @@ use Rattle.time_machine.specs.declared.outcome.Reason.TheVariants.{BadLength}
 use Rattle.time_machine.specs.declared.conf.Conf.{Conf}
 use Rattle.time_machine.specs.Words.{Words}
 use Rattle.time_machine.specs.Verdict.{is_bad_length, is_bad_source, is_bad_mode, is_bad_stratum, is_bad_key_id, is_bad_digest, has_digest, is_answered, verdict_by_times, verdict_on, verdict_at}
-use Rattle.sntp_core.specs.Packets.{is_tail_of, names_another, carries, is_signed, is_same_sum, verdict_on_packet, packet_verdict}
+use Rattle.sntp_core.specs.Packets.{is_tail_of, names_another, carries, is_signed, verdict_on_packet, packet_verdict}
 
 if_same : (b b' : Bool) (r x x' : Outcome) → b ≡ b' → (b' ≡ false → x ≡ x') → (if b then r else x) ≡ (if b' then r else x')
 if_same true true r x x' e f = refl

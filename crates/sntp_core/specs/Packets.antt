@@ -1,5 +1,5 @@
 -- The verdict on a message that was read from an arrival's bytes. It is the verdict on the bytes: no contract that callers see cites it.
-use Rattle.std.specs.Prelude.{ℕ, ◌%◌, ◌^◌, Bool, true, false, not, ◌&&◌, ◌||◌, ◌==◌, List, find, Option, Some, None, ℤ, if◌then◌else◌}
+use Rattle.std.specs.Prelude.{ℕ, ◌%◌, ◌^◌, Bool, true, false, not, ◌||◌, ◌==◌, List, find, Option, Some, None, ℤ, if◌then◌else◌}
 use Rattle.std.specs.Option.{option_map_or}
 use Rattle.std.specs.Str.{bytes_eq}
 use Rattle.edge_traits.specs.declared.datagram.Addr.{Addr}

@@ -52,7 +52,8 @@ impl Member {
         ensures stands { StandsForHistory result [] }
     {
         let poll = conf.limits.min_poll;
-        let _some = conf.partners.as_slice();
+        // There is one partner at least.
+        let _partners = conf.partners.as_slice();
         Member {
             conf,
             mark: None,

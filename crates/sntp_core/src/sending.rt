@@ -34,13 +34,13 @@ impl Member {
         ensures words { words_of self.new ≡ after_life self.old.conf (words_of self.old) mark }
         ensures outcome { result ≡ Outcome.Started mark }
     {
-        let _some = self.conf.partners.as_slice();
+        // There is one partner at least.
+        let _partners = self.conf.partners.as_slice();
+        self.turn(true);
         self.mark = Some(mark);
         self.sent = 0;
         self.base = None;
-        self.poll = self.conf.limits.min_poll;
         self.partner = 0;
-        self.open_requests.clear();
         self.source = None;
         Outcome::Started { mark }
     }

@@ -1,5 +1,5 @@
 -- What stands at the end of a history after one more event.
-use Rattle.std.proofs.Common.{◌≡◌, ℕ, ◌+◌, ◌%◌, Bool, true, false, not, ◌&&◌, ◌==◌, List, [], ◌∷◌, length, Option, Some, None, refl, sym, ◌∙◌, ap, subst, if◌then◌else◌, ℤ, bit_and, find}
+use Rattle.std.proofs.Common.{◌≡◌, ℕ, ◌+◌, ◌%◌, Bool, true, false, ◌&&◌, ◌==◌, List, ◌∷◌, length, Option, Some, None, refl, sym, ◌∙◌, ap, subst, if◌then◌else◌, ℤ, bit_and, find}
 use Rattle.std.proofs.Math.Nat.{mod-add-mod, mod-mod, zero-max, zero-mod, add-zero}
 use Rattle.std.proofs.lemmas.List.{append-nil}
 use Rattle.edge_traits.specs.declared.datagram.Addr.{Addr}
@@ -22,7 +22,7 @@ use Rattle.time_machine.specs.Events.{is_reset}
 use Rattle.time_machine.specs.Words.{Words, words}
 use Rattle.time_machine.specs.Told.{Told}
 use Rattle.time_machine.specs.Verdict.{is_answered, is_bad_length, is_bad_source, is_bad_mode, is_bad_stratum, is_bad_key_id, is_bad_digest, has_bad_times, offset_of, moved_by, verdict_at, verdict_on}
-use Rattle.time_machine.specs.Machine.{told, told_by, is_due, is_change, partner_as, request_as, count_at, outcome_by}
+use Rattle.time_machine.specs.Machine.{told_by, is_due, is_change, partner_as, request_as, count_at, outcome_by}
 use Rattle.time_machine.specs.Growing.{MayFollow}
 use Rattle.time_machine.specs.After.{after, after_life, after_send, after_move, after_arrival, kept}
 
@@ -152,7 +152,6 @@ words_after conf before (Arrive now from bytes) =
     (λ reason. refused conf before now from bytes _ reason)
     conf w now from bytes
     (λ r _ offset how. moved conf before now from bytes r.count offset how))
-
 
 -- ---- What may follow doesn't see the difference
 

@@ -1,5 +1,5 @@
 -- An arrival answers one open request at most, and its timestamps stand for one moment each.
-use Rattle.std.proofs.Common.{◌≡◌, ℕ, ◌==◌, ◌&&◌, Bool, true, false, List, [], ◌∷◌, ◌⊎◌, inl, inr, refl, sym, ◌∙◌, subst, arith, ℤ}
+use Rattle.std.proofs.Common.{◌≡◌, ◌&&◌, Bool, true, false, List, [], ◌∷◌, ◌⊎◌, inl, inr, refl, sym, ◌∙◌, subst, arith, ℤ}
 use Rattle.std.specs.List.{AllByRecursion, Contains, IsDistinct}
 use Rattle.std.proofs.lemmas.List.Elements.{Contains-append_cases}
 use Rattle.std.proofs.lemmas.Bool.Decides.{Decides-eqb}
@@ -18,16 +18,16 @@ use Rattle.time_machine.proofs.Open.{open_at}
 -- an element is the first one or a later one
 first_or : (x : Request) (xs : List Request) (r : Request) → Contains (x ∷ xs) r → (x ≡ r) ⊎ Contains xs r
 first_or x xs r c = elim (Contains-append_cases (x ∷ []) xs r c) [
-    inl h ↦ let k : h.0 ≡ 0 = omega (arith, h.1) in inl (rw k at h.2)
-    | inr h ↦ inr h
-  ]
+  | inl h ↦ let k : h.0 ≡ 0 = omega (arith, h.1) in inl (rw k at h.2)
+  | inr h ↦ inr h
+]
 
 all_have : (P : Request → Type 0) (xs : List Request) (r : Request) → AllByRecursion P xs → Contains xs r → P r
 all_have P [] r h c = absurd (omega (arith, c.1))
 all_have P (x ∷ xs) r h c = elim (first_or x xs r c) [
-    inl e ↦ subst P e h.0
-    | inr k ↦ all_have P xs r h.1 k
-  ]
+  | inl e ↦ subst P e h.0
+  | inr k ↦ all_have P xs r h.1 k
+]
 
 differ : (a b : Request) → same_count a b ≡ false → a.count ≡ b.count → ⊥
 differ a b n e = let t : same_count a b ≡ true = (Decides-eqb a.count b.count).1 e in cc
@@ -36,15 +36,15 @@ one_counted : (xs : List Request) (a b : Request) → IsDistinct same_count xs �
 unfolding IsDistinct
 one_counted [] a b d c k e = absurd (omega (arith, c.1))
 one_counted (x ∷ xs) a b d c k e = elim (first_or x xs a c) [
-    inl p ↦ elim (first_or x xs b k) [
-      inl q ↦ sym p ∙ q
-      | inr q ↦ absurd (differ x b (all_have (λ y. same_count x y ≡ false) xs b d.0 q) (let s : x.count ≡ b.count = cc in s))
-    ]
-    | inr p ↦ elim (first_or x xs b k) [
-      inl q ↦ absurd (differ x a (all_have (λ y. same_count x y ≡ false) xs a d.0 p) (let s : x.count ≡ a.count = cc in s))
-      | inr q ↦ one_counted xs a b d.1 p q e
-    ]
+  | inl p ↦ elim (first_or x xs b k) [
+    | inl q ↦ sym p ∙ q
+    | inr q ↦ absurd (differ x b (all_have (λ y. same_count x y ≡ false) xs b d.0 q) (let s : x.count ≡ b.count = cc in s))
   ]
+  | inr p ↦ elim (first_or x xs b k) [
+    | inl q ↦ absurd (differ x a (all_have (λ y. same_count x y ≡ false) xs a d.0 p) (let s : x.count ≡ a.count = cc in s))
+    | inr q ↦ one_counted xs a b d.1 p q e
+  ]
+]
 
 both_true : (a b : Bool) → (a && b) ≡ true → (a ≡ true) × (b ≡ true)
 both_true true b e = (refl, e)

@@ -1,10 +1,10 @@
 -- The open requests are those that events from the last turning point on have sent.
-use Rattle.std.proofs.Common.{◌≡◌, List, [], ◌∷◌, ◌++◌, Option, Some, None, ◌⊎◌, inl, inr, refl, sym, subst, arith}
+use Rattle.std.proofs.Common.{◌≡◌, List, [], ◌∷◌, ◌++◌, Option, Some, None, inl, inr, refl, sym, subst, arith}
 use Rattle.std.specs.List.{Contains}
 use Rattle.std.proofs.lemmas.List.Elements.{Contains-append_left, Contains-append_right, Contains-append_cases}
 use Rattle.time_machine.specs.declared.outcome.Request.{Request}
 use Rattle.time_machine.specs.Told.{Told, request_of}
-use Rattle.time_machine.specs.Words.{words, since, all_sent, some_of, IsOpen}
+use Rattle.time_machine.specs.Words.{words, since, all_sent, some_of}
 use Rattle.time_machine.specs.Positions.{LawOfOpen}
 
 -- an event of a line has sent a request
@@ -33,9 +33,9 @@ later x xs r h = record { newer = x ∷ h.newer; event = h.event; older = h.olde
 found : (xs : List Told) (r : Request) → Contains (all_sent xs) r → HasSent xs r
 found [] r c = absurd (omega (arith, c.1))
 found (x ∷ xs) r c = elim (Contains-append_cases (all_sent xs) (some_of (request_of x)) r c) [
-    inl h ↦ later x xs r (found xs r h)
-    | inr h ↦ record { newer = []; event = x; older = xs; place = refl; sent = from_one (request_of x) r h }
-  ]
+  | inl h ↦ later x xs r (found xs r h)
+  | inr h ↦ record { newer = []; event = x; older = xs; place = refl; sent = from_one (request_of x) r h }
+]
 
 pub open_at : LawOfOpen
 unfolding words

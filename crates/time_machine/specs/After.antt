@@ -1,5 +1,5 @@
 -- What one event does to the words that stand at the end of a history. This is what a member does: no contract that its callers see cites it.
-use Rattle.std.specs.Prelude.{ℕ, ◌+◌, ◌%◌, ◌^◌, ◌<◌, max, Bool, ◌||◌, [], ◌∷◌, ◌++◌, length, Some, None, ℤ, if◌then◌else◌, unsigned_abs}
+use Rattle.std.specs.Prelude.{ℕ, ◌+◌, max, Bool, ◌||◌, [], ◌∷◌, ◌++◌, Some, None, ℤ, if◌then◌else◌}
 use Rattle.capture_fmt.specs.declared.event.Event.{Event}
 use Rattle.capture_fmt.specs.declared.event.Event.TheVariants.{Life, Tick, Resync, Arrive}
 use Rattle.time_machine.specs.declared.outcome.How.{How}
