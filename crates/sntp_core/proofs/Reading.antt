@@ -20,7 +20,7 @@ use Rattle.time_machine.specs.declared.outcome.Reason.TheVariants.{BadLength}
 use Rattle.time_machine.specs.declared.conf.Conf.{Conf}
 use Rattle.time_machine.specs.Words.{Words}
 use Rattle.time_machine.specs.Verdict.{is_bad_length, is_bad_source, is_bad_mode, is_bad_stratum, is_bad_key_id, is_bad_digest, has_digest, is_answered, verdict_by_times, verdict_on, verdict_at}
-use Rattle.sntp_core.specs.Packets.{is_tail_of, names_another, carries, is_signed, verdict_on_packet, packet_verdict}
+use Rattle.sntp_core.specs.Packets.{is_tail_of, names_another, carries, carries_either, verdict_on_packet, packet_verdict}
 
 if_same : (b b' : Bool) (r x x' : Outcome) → b ≡ b' → (b' ≡ false → x ≡ x') → (if b then r else x) ≡ (if b' then r else x')
 if_same true true r x x' e f = refl
@@ -80,7 +80,7 @@ neither : (a b : Bool) → (not a && not b) ≡ not (a || b)
 neither true b = refl
 neither false b = refl
 
-signed_is : (kind : Kind) (account : Account) (bytes : List ℕ) (p : Packet) → IsChecksumAt kind bytes p → is_bad_digest kind account bytes ≡ not (is_signed account p)
+signed_is : (kind : Kind) (account : Account) (bytes : List ℕ) (p : Packet) → IsChecksumAt kind bytes p → is_bad_digest kind account bytes ≡ not (carries_either account p)
 signed_is kind account bytes p h =
     rw (digest_is kind bytes p account.current h, previous_is kind bytes p account.previous h) (neither (carries account.current p) (option_map_or (λ key. carries key p) account.previous false))
 

@@ -8,7 +8,8 @@ use Rattle.time_machine.specs.Events.{History}
 use Rattle.time_machine.specs.Words.{Words, words}
 use Rattle.time_machine.specs.Machine.{told, outcome_by, outcome_at}
 use Rattle.time_machine.specs.Growing.{MayFollow, Grows}
-use Rattle.time_machine.specs.After.{after, kept}
+use Rattle.time_machine.specs.After.{after}
+use Rattle.time_machine.specs.Kept.{kept}
 use Rattle.time_machine.proofs.After.{same_words, words_after, outcome_kept, may_follow_kept, coe_by}
 use Rattle.sntp_core.specs.declared.member.Member.{Member}
 use Rattle.sntp_core.specs.Standing.{conf_of, words_of, StandsForHistory, LawOfFollowing}

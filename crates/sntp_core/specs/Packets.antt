@@ -1,4 +1,5 @@
--- The verdict on a message that was read from an arrival's bytes. It is the verdict on the bytes: no contract that callers see cites it.
+-- The verdict on a message that was read from an arrival's bytes. It is the verdict on the bytes: no contract that
+-- callers see cites it.
 use Rattle.std.specs.Prelude.{ℕ, ◌%◌, ◌^◌, Bool, true, false, not, ◌||◌, ◌==◌, List, find, Option, Some, None, ℤ, if◌then◌else◌}
 use Rattle.std.specs.Option.{option_map_or}
 use Rattle.std.specs.Str.{bytes_eq}
@@ -42,15 +43,15 @@ abbrev pub carries : List ℕ → Packet → Bool
 carries key p = is_same_sum (sum_of p.tail) (digest_of p key)
 
 -- the message carries its checksum under the current or the previous key
-abbrev pub is_signed : Account → Packet → Bool
-is_signed account p = carries account.current p || option_map_or (λ key. carries key p) account.previous false
+abbrev pub carries_either : Account → Packet → Bool
+carries_either account p = carries account.current p || option_map_or (λ key. carries key p) account.previous false
 
 -- the reasons from NoRequest on
 abbrev pub verdict_on_packet : Conf → ℤ → Packet → Option Request → Outcome
 verdict_on_packet conf now p None = Refused NoRequest
 verdict_on_packet conf now p (Some r) =
     if names_another conf.account.rid p.tail then Refused BadKeyId
-    else if not (is_signed conf.account p) then Refused BadDigest
+    else if not (carries_either conf.account p) then Refused BadDigest
     else verdict_by_times conf.limits now r (ticks_of p.header.receive now) (ticks_of p.header.transmit now)
 
 abbrev pub packet_verdict : Conf → Words → ℤ → Addr → Packet → Outcome

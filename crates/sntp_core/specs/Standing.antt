@@ -6,7 +6,7 @@ use Rattle.time_machine.specs.Events.{History}
 use Rattle.time_machine.specs.Words.{Words, words}
 use Rattle.time_machine.specs.Machine.{told}
 use Rattle.time_machine.specs.Growing.{MayFollow, Grows}
-use Rattle.time_machine.specs.After.{kept}
+use Rattle.time_machine.specs.Kept.{kept}
 use Rattle.sntp_core.specs.declared.member.Member.{Member}
 
 -- what a member is set to

@@ -4,7 +4,7 @@ ghost use Rattle.std.specs.Option.{option_map_or};
 ghost use Rattle.base_specs.specs.Time.{IsReading};
 ghost use Rattle.ntp_wire.specs.Stamp.{IsInReach};
 ghost use Rattle.time_machine.specs.Verdict.{is_answered, is_same_addr, is_bad_mode, is_bad_source, is_bad_stratum};
-ghost use Rattle.sntp_core.specs.Packets.{is_tail_of, names_another, carries, is_signed};
+ghost use Rattle.sntp_core.specs.Packets.{is_tail_of, names_another, carries, carries_either};
 
 use crate::Member;
 use crate::times::{base_moved, has_bad_times, offset_of};
@@ -134,7 +134,7 @@ impl Member {
     {
         if names_another(self.conf.account.rid, &packet.tail) {
             Outcome::Refused(Reason::BadKeyId)
-        } else if !is_signed(&self.conf.account, packet) {
+        } else if !carries_either(&self.conf.account, packet) {
             Outcome::Refused(Reason::BadDigest)
         } else {
             let received = to_ticks(packet.header.receive, now);
@@ -231,8 +231,8 @@ fn names_another(rid: u32, tail: &Tail) -> bool
 }
 
 /// Whether the message carries its checksum under the account's current or previous key.
-fn is_signed(account: &Account, packet: &Packet) -> bool
-    ensures { result ≡ is_signed account.now packet.now }
+fn carries_either(account: &Account, packet: &Packet) -> bool
+    ensures { result ≡ carries_either account.now packet.now }
 {
     carries(packet, &account.current) || carries_previous(packet, &account.previous)
 }

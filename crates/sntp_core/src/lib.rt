@@ -1,14 +1,14 @@
 //! A member of a domain: it takes what happens, event by event, and answers what each event leads to.
 //!
-//! [`Member`] keeps its settings, a mark, eight requests at most, a partner, a polling interval and a reading, and forgets
-//! the rest. It asks no device and takes no memory. `admits` says whether an event may come next, `step` takes it, `source`
-//! names the partner whose reply was last accepted, and [`line_of`] writes the line of an outcome.
+//! [`Member`] keeps its settings, a mark, eight requests at most, a partner, a polling interval and a reading, and
+//! forgets the rest. It asks no device and takes no memory. `admits` says whether an event may come next, `step`
+//! takes it, `source` names the partner whose reply was last accepted, and [`line_of`] writes the line of an outcome.
 //!
 //! It stands on `time_machine`, which says what a history leads to, on `ms_auth` for messages and checksums, and on
 //! `phase_rule` for the judgement of an offset. The layer above may rely on this: where a member stands for a history
-//! (`StandsForHistory` in `specs/Standing.antt`; a new one stands for the empty history), `admits` is true exactly where
-//! the history followed by the event grows, `step` answers what the event leads to in that history, and the member then
-//! stands for the longer one. A refused arrival leaves the member as it was, whatever happened before.
+//! (`StandsForHistory` in `specs/Standing.antt`; a new one stands for the empty history), `admits` is true exactly
+//! where the history followed by the event grows, `step` answers what the event leads to in that history, and the
+//! member then stands for the longer one. A refused arrival leaves the member as it was, whatever happened before.
 //!
 //! `specs/Packets.antt` and `specs/Ranges.antt` belong to the private part.
 #![tactic(auto)]

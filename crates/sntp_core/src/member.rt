@@ -70,7 +70,8 @@ impl Member {
     /// Whether the event may come next.
     ///
     /// A life may begin where its mark is at least every count that was sent before. Any other event may come once a
-    /// life began, and one that may send where the mark and the requests sent since are below 4,294,967,295.
+    /// life began, and one that may send where the mark plus the number of requests sent since is below
+    /// 4,294,967,295.
     pub fn admits(&self, event: &Event) -> bool
         ensures follows { IsTrue result ↔ MayFollow (conf_of self.now) (words_of self.now) event.now }
         ensures grows { (history : History) → StandsForHistory self.now history

@@ -6,7 +6,7 @@ use edge_traits::Addr;
 use line_text::{Line, LineText};
 use time_machine::{How, Outcome, Reason};
 
-/// The line of an outcome, with its line feed; it is empty where nothing was sent.
+/// The line of an outcome, with its line feed; it is empty for an idle Tick.
 pub fn line_of(outcome: &Outcome) -> LineText
     ensures { result ≡ line_of outcome.now }
 {

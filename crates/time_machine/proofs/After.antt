@@ -24,7 +24,8 @@ use Rattle.time_machine.specs.Told.{Told}
 use Rattle.time_machine.specs.Verdict.{is_answered, is_bad_length, is_bad_source, is_bad_mode, is_bad_stratum, is_bad_key_id, is_bad_digest, has_bad_times, offset_of, moved_by, verdict_at, verdict_on}
 use Rattle.time_machine.specs.Machine.{told_by, is_due, is_change, partner_as, request_as, count_at, outcome_by}
 use Rattle.time_machine.specs.Growing.{MayFollow}
-use Rattle.time_machine.specs.After.{after, after_life, after_send, after_move, after_arrival, kept}
+use Rattle.time_machine.specs.After.{after, after_life, after_send, after_move, after_arrival}
+use Rattle.time_machine.specs.Kept.{kept}
 
 -- ---- The changes count modulo the number of partners
 
@@ -44,7 +45,7 @@ outcome_kept conf w (Tick now word) = rw (request_kept conf w false (is_change w
 outcome_kept conf w (Resync now word flags) = request_kept conf w (is_reset (Resync now word flags)) (is_change w (Resync now word flags)) word
 outcome_kept conf w (Arrive now from bytes) = verdict_kept conf w now from bytes
 
--- ---- A verdict_at is a refusal, or a move for an open request
+-- ---- A verdict is a refusal, or a move for an open request
 
 moved_cases : (P : Outcome → Type 0) → ((reason : Reason) → P (Refused reason)) → (count : ℕ) → ((offset : ℤ) (how : How) → P (Moved count offset how)) → (offset : ℤ) (j : Judged) → P (moved_by count offset j)
 moved_cases P refused count moved offset judgement.TooBig = refused TooBig

@@ -1,19 +1,29 @@
 -- An arrival answers one open request at most, and its timestamps stand for one moment each.
-use Rattle.std.proofs.Common.{◌≡◌, ◌&&◌, Bool, true, false, List, [], ◌∷◌, ◌⊎◌, inl, inr, refl, sym, ◌∙◌, subst, arith, ℤ}
+use Rattle.std.proofs.Common.{◌≡◌, ℕ, ◌==◌, ◌&&◌, cond, Bool, true, false, Option, Some, IfSome, List, [], ◌∷◌, ◌⊎◌, inl, inr, refl, sym, ◌∙◌, subst, arith, ℤ, if◌then◌else◌}
 use Rattle.std.specs.List.{AllByRecursion, Contains, IsDistinct}
-use Rattle.std.proofs.lemmas.List.Elements.{Contains-append_cases}
+use Rattle.std.specs.Prelude.{is_some, find}
+use Rattle.std.proofs.lemmas.List.Elements.{Contains-append_cases, Contains-append_right}
 use Rattle.std.proofs.lemmas.Bool.Decides.{Decides-eqb}
 use Rattle.base_specs.specs.Time.{IsTicksNear}
 use Rattle.ntp_wire.specs.declared.stamp.Stamp.{Stamp}
 use Rattle.ntp_wire.specs.Stamp.{ticks_of}
 use Rattle.ntp_wire.proofs.Moments.{ticks_of_is_near, one_moment}
 use Rattle.time_machine.specs.declared.outcome.Request.{Request}
-use Rattle.time_machine.specs.Words.{words}
-use Rattle.time_machine.specs.Machine.{told}
+use Rattle.edge_traits.specs.declared.datagram.Addr.{Addr}
+use Rattle.ntp_wire.specs.Fields.{originate_of}
+use Rattle.capture_fmt.specs.declared.event.Event.{Event}
+use Rattle.capture_fmt.specs.declared.event.Event.TheVariants.{Life, Tick, Resync, Arrive}
+use Rattle.time_machine.specs.declared.outcome.Outcome.{Outcome}
+use Rattle.time_machine.specs.declared.outcome.Outcome.TheVariants.{Idle, Sent}
+use Rattle.time_machine.specs.declared.conf.Conf.{Conf}
+use Rattle.time_machine.specs.Told.{request_sent, count_moved}
+use Rattle.time_machine.specs.Words.{Words, words}
+use Rattle.time_machine.specs.Machine.{told, is_due, outcome_at}
 use Rattle.time_machine.specs.Verdict.{is_answered}
-use Rattle.time_machine.specs.Laws.{LawOfAnswer}
-use Rattle.time_machine.proofs.One.{one_open, same_count}
+use Rattle.time_machine.specs.Laws.{AnswersOpen, LawOfAccepted, LawOfAnswer, LawOfSends}
+use Rattle.time_machine.proofs.Room.{one_open, same_count}
 use Rattle.time_machine.proofs.Open.{open_at}
+use Rattle.time_machine.proofs.After.{verdict_cases}
 
 -- an element is the first one or a later one
 first_or : (x : Request) (xs : List Request) (r : Request) → Contains (x ∷ xs) r → (x ≡ r) ⊎ Contains xs r
@@ -54,9 +64,9 @@ counted : (now : ℤ) (stamp : Stamp) (r : Request) → is_answered now stamp r 
 counted now stamp r e = (Decides-eqb r.count stamp.seconds).0 (both_true _ _ (both_true _ _ (both_true _ _ e).0).0).0
 
 pub one_answered : LawOfAnswer
-one_answered conf history now stamp a b g o p e f =
+one_answered conf history now stamp a b o p e f =
     let before = told conf history in
-    one_counted (words conf before).open_requests a b (one_open conf history g) ((open_at conf before a).0 o) ((open_at conf before b).0 p)
+    one_counted (words conf before).open_requests a b (one_open conf history) ((open_at conf before a).0 o) ((open_at conf before b).0 p)
     (counted now stamp a e ∙ sym (counted now stamp b f))
 
 pub one_time : (stamp : Stamp) (near t : ℤ) → IsTicksNear stamp.seconds stamp.fraction near t → t ≡ ticks_of stamp near
@@ -64,3 +74,40 @@ one_time stamp near t h = one_moment stamp near t (ticks_of stamp near) h (ticks
 
 pub is_time : (stamp : Stamp) (near t : ℤ) → t ≡ ticks_of stamp near → IsTicksNear stamp.seconds stamp.fraction near t
 is_time stamp near t e = subst (λ u. IsTicksNear stamp.seconds stamp.fraction near u) (sym e) (ticks_of_is_near stamp near)
+
+-- what a find gave is an element that passes the test
+record IsFound (test : Request → Bool) (xs : List Request) (x : Request) : Type 0 where
+  element : Contains xs x
+  passes : test x ≡ true
+
+found_later : (test : Request → Bool) (y : Request) (ys : List Request) (x : Request) → (find test ys ≡ Some x → IsFound test ys x) → (b : Bool) → test y ≡ b →
+    cond b (Some y) (find test ys) ≡ Some x → IsFound test (y ∷ ys) x
+found_later test y ys x later true t e = let same : y ≡ x = cc in record { element = (0, omega arith, same); passes = cc }
+found_later test y ys x later false t e = let rest = later e in record { element = Contains-append_right (y ∷ []) ys x rest.element; passes = rest.passes }
+
+find_found : (test : Request → Bool) (xs : List Request) (x : Request) → find test xs ≡ Some x → IsFound test xs x
+find_found test [] x e = absurd (let no : ⊥ = cc in no)
+find_found test (y ∷ ys) x e = found_later test y ys x (find_found test ys x) (test y) refl e
+
+pub answers_open : LawOfAccepted
+unfolding outcome_at
+answers_open conf history now from bytes =
+    let before = told conf history in
+    let w = words conf before in
+    verdict_cases (λ o. IfSome (count_moved o) (λ count. AnswersOpen before now bytes count)) (λ reason. tt) conf w now from bytes
+    (λ r e offset how.
+    let f = find_found (is_answered now (originate_of bytes)) w.open_requests r e in
+    record { request = r; is_open = (open_at conf before r).1 f.element; answered = f.passes; counted = refl })
+
+-- ---- Which events send
+
+tick_sends : (due : Bool) (e : Event) (to : Addr) (count : ℕ) (bytes : List ℕ) → is_some (request_sent e (if due then Sent to count bytes else Idle)) ≡ due
+tick_sends true e to count bytes = refl
+tick_sends false e to count bytes = refl
+
+pub sends_so : LawOfSends
+sends_so conf w (Life now mark) = refl
+sends_so conf w (Tick now word) = tick_sends (is_due w now) (Tick now word) _ _ _
+sends_so conf w (Resync now word flags) = refl
+sends_so conf w (Arrive now from bytes) =
+    verdict_cases (λ o. is_some (request_sent (Arrive now from bytes) o) ≡ false) (λ reason. refl) conf w now from bytes (λ r e offset how. refl)

@@ -11,7 +11,7 @@ use Rattle.capture_fmt.specs.declared.event.Event.TheVariants.{Life, Tick, Resyn
 use Rattle.time_machine.specs.declared.outcome.Outcome.{Outcome}
 use Rattle.time_machine.specs.declared.outcome.Outcome.TheVariants.{Started, Idle, Sent, Moved, Refused}
 use Rattle.time_machine.specs.declared.conf.Conf.{Conf}
-use Rattle.time_machine.specs.Line.{up_to_last}
+use Rattle.time_machine.specs.Entries.{up_to_last}
 use Rattle.time_machine.specs.Events.{History, is_life, reading_of, word_of}
 use Rattle.time_machine.specs.Words.{Words, words, greatest_count, all_sent, some_of}
 use Rattle.time_machine.specs.Told.{Told, count_moved, count_sent, request_sent}
@@ -19,19 +19,11 @@ use Rattle.time_machine.specs.Machine.{told, is_due, count_at, outcome_by, outco
 use Rattle.ntp_wire.specs.Fields.{originate_of}
 use Rattle.time_machine.specs.Verdict.{is_answered}
 use Rattle.time_machine.specs.Growing.{MayFollow, Grows}
-use Rattle.time_machine.specs.Laws.{IsFirstMove, LawOfLives, LawOfCounts, LawOfMoves, LawOfRoom}
-use Rattle.time_machine.specs.After.{after, after_send, after_arrival, kept}
+use Rattle.time_machine.specs.Laws.{IsFirstMove, LawOfLives, LawOfCounts, LawOfMoves}
+use Rattle.time_machine.specs.After.{after, after_send, after_arrival}
+use Rattle.time_machine.specs.Kept.{kept}
+use Rattle.time_machine.proofs.Lists.{all_push, all_weaken}
 use Rattle.time_machine.proofs.After.{words_after, verdict_cases, outcome_kept, may_follow_kept, coe_by}
-
--- ---- Lists
-
-pub all_push : {A : Type 0} (P : A → Type 0) (xs : List A) (x : A) → AllByRecursion P xs → P x → AllByRecursion P (xs ++ x ∷ [])
-all_push P [] x h p = (p, tt)
-all_push P (y ∷ ys) x h p = (h.0, all_push P ys x h.1 p)
-
-pub all_weaken : {A : Type 0} (P Q : A → Type 0) → ((x : A) → P x → Q x) → (xs : List A) → AllByRecursion P xs → AllByRecursion Q xs
-all_weaken P Q f [] h = tt
-all_weaken P Q f (x ∷ xs) h = (f x h.0, all_weaken P Q f xs h.1)
 
 found_holds : {A : Type 0} (P : A → Type 0) (y x : A) (rest : Option A) → P y → (rest ≡ Some x → P x) → (b : Bool) → cond b (Some y) rest ≡ Some x → P x
 found_holds P y x rest p later true e = subst P (let same : y ≡ x = cc in same) p
@@ -52,7 +44,6 @@ greatest_moved (t ∷ before) = max (moved_number t.outcome) (greatest_moved bef
 
 pub record Sound (mark : Option ℕ) (sends greatest : ℕ) (open_requests : List Request) (moved : ℕ) : Type 0 where
   pub counted : greatest ≤ unwrap_or mark 0 + sends
-  pub few : length open_requests ≤ 8
   pub sent : AllByRecursion (λ r. r.count ≤ greatest) open_requests
   pub living : AllByRecursion (λ r. unwrap_or mark 0 < r.count) open_requests
   pub moved_sent : moved ≤ greatest
@@ -62,27 +53,23 @@ abbrev SoundBy : Words → ℕ → Type 0
 SoundBy w moved = Sound w.mark w.sent w.greatest w.open_requests moved
 
 sound_send : (mark : Option ℕ) (sends greatest : ℕ) (xs : List Request) (moved : ℕ) (turns : Bool) (r : Request) →
-    Sound mark sends greatest xs moved → (turns ≡ false → length xs ≢ 8) → r.count ≡ unwrap_or mark 0 + sends + 1 →
+    Sound mark sends greatest xs moved → r.count ≡ unwrap_or mark 0 + sends + 1 →
     Sound mark (sends + 1) (max (unwrap_or mark 0 + sends + 1) greatest) ((if turns then [] else xs) ++ r ∷ []) (max 0 moved)
-sound_send mark sends greatest xs moved true r s room e =
+sound_send mark sends greatest xs moved true r s e =
     let c = s.counted in
     let m = s.moved_sent in
     record {
       counted = omega arith;
-      few = omega arith;
       sent = (omega arith, tt);
       living = (omega arith, tt);
       moved_sent = omega arith;
       fresh = (omega arith, tt);
     }
-sound_send mark sends greatest xs moved false r s room e =
+sound_send mark sends greatest xs moved false r s e =
     let c = s.counted in
     let m = s.moved_sent in
-    let f = s.few in
-    let left : length xs ≢ 8 = room refl in
     record {
       counted = omega arith;
-      few = omega (arith, length-append xs (r ∷ []));
       sent = all_push _ xs r (all_weaken (λ r. r.count ≤ greatest) (λ r. r.count ≤ max (unwrap_or mark 0 + sends + 1) greatest) (λ r h. omega arith) xs s.sent) (omega arith);
       living = all_push _ xs r s.living (omega arith);
       moved_sent = omega arith;
@@ -95,7 +82,6 @@ sound_quiet w moved s =
     let m = s.moved_sent in
     record {
       counted = s.counted;
-      few = s.few;
       sent = s.sent;
       living = s.living;
       moved_sent = omega arith;
@@ -105,26 +91,18 @@ sound_quiet w moved s =
 sound_life : (w : Words) (moved mark : ℕ) → SoundBy w moved → w.greatest ≤ mark → Sound (Some mark) 0 w.greatest [] (max 0 moved)
 sound_life w moved mark s h =
     let m = s.moved_sent in
-    record { counted = omega arith; few = omega arith; sent = tt; living = tt; moved_sent = omega arith; fresh = tt }
+    record { counted = omega arith; sent = tt; living = tt; moved_sent = omega arith; fresh = tt }
 
 sound_move : (w : Words) (moved count : ℕ) → SoundBy w moved → count ≤ w.greatest → Sound w.mark w.sent w.greatest [] (max count moved)
 sound_move w moved count s h =
     let m = s.moved_sent in
-    record { counted = s.counted; few = omega arith; sent = tt; living = tt; moved_sent = omega arith; fresh = tt }
-
--- where eight are open, an event that sends is a turning point
-not_eight : (n : ℕ) → (n == 8) ≡ false → n ≢ 8
-not_eight n f e = let t : (n == 8) ≡ true = (Decides-eqb n 8).1 e in cc
-
-turns_unless : (b full : Bool) → (b || (not b && full)) ≡ false → full ≡ false
-turns_unless true full e = cc
-turns_unless false full e = e
+    record { counted = s.counted; sent = tt; living = tt; moved_sent = omega arith; fresh = tt }
 
 sound_tick : (conf : Conf) (w : Words) (moved : ℕ) (now : ℤ) (word : ℕ) (due : Bool) (to : Addr) (bytes : List ℕ) → SoundBy w moved →
     SoundBy (if due then after_send conf w false (due && true && (length w.open_requests == 8)) now word else w)
     (max (moved_number (if due then Sent to (count_at w) bytes else Idle)) moved)
 sound_tick conf w moved now word true to bytes s =
-    sound_send w.mark w.sent w.greatest w.open_requests moved (length w.open_requests == 8) (record { count = count_at w; word = word; at = now }) s (not_eight (length w.open_requests)) refl
+    sound_send w.mark w.sent w.greatest w.open_requests moved (length w.open_requests == 8) (record { count = count_at w; word = word; at = now }) s refl
 sound_tick conf w moved now word false to bytes s = sound_quiet w moved s
 
 pub sound_after : (conf : Conf) (w : Words) (moved : ℕ) (e : Event) → SoundBy w moved → MayFollow conf w e →
@@ -134,8 +112,7 @@ sound_after conf w moved (Tick now word) s f = sound_tick conf w moved now word 
 sound_after conf w moved (Resync now word flags) s f =
     let b = bit_and flags 4 == 4 in
     let full = length w.open_requests == 8 in
-    sound_send w.mark w.sent w.greatest w.open_requests moved (b || (not b && full)) (record { count = count_at w; word = word; at = now }) s
-    (λ e. not_eight (length w.open_requests) (turns_unless b full e)) refl
+    sound_send w.mark w.sent w.greatest w.open_requests moved (b || (not b && full)) (record { count = count_at w; word = word; at = now }) s refl
 sound_after conf w moved (Arrive now from bytes) s f =
     verdict_cases (λ o. SoundBy (after_arrival conf w now o) (max (moved_number o) moved))
     (λ reason. sound_quiet w moved s)
@@ -146,7 +123,7 @@ sound_after conf w moved (Arrive now from bytes) s f =
 
 pub sound_told : (conf : Conf) (history : History) → Grows conf history → SoundBy (words conf (told conf history)) (greatest_moved (told conf history))
 unfolding Grows told words
-sound_told conf [] g = record { counted = omega arith; few = omega arith; sent = tt; living = tt; moved_sent = omega arith; fresh = tt }
+sound_told conf [] g = record { counted = omega arith; sent = tt; living = tt; moved_sent = omega arith; fresh = tt }
 sound_told conf (e ∷ history) g =
     let before = told conf history in
     let w = words conf before in
@@ -167,7 +144,7 @@ first_move : (before : List Told) (count : ℕ) → greatest_moved before < coun
 first_move [] count h = tt
 first_move (t ∷ before) count h = (not_moved t.outcome (greatest_moved before) count h, first_move before count (omega arith))
 
--- an accepted arrival is_answered a request that no earlier one has answered
+-- an accepted arrival answers a request that no earlier one has answered
 abbrev FirstMove : Outcome → List Told → Type 0
 FirstMove o before = IfSome (count_moved o) (λ count. IsFirstMove count before)
 
@@ -236,9 +213,6 @@ pub counts_rise : LawOfCounts
 unfolding told Grows
 counts_rise conf [] g = tt
 counts_rise conf (e ∷ history) g = (above conf history e g.0, counts_rise conf history g.0)
-
-pub room_is_left : LawOfRoom
-room_is_left conf history g = (sound_told conf history g).few
 
 -- ---- Lives
 

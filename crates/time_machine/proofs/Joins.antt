@@ -7,10 +7,11 @@ use Rattle.phase_rule.specs.declared.limits.Limits.{Limits}
 use Rattle.capture_fmt.specs.declared.event.Event.{Event}
 use Rattle.capture_fmt.specs.declared.event.Event.TheVariants.{Life, Tick, Resync, Arrive}
 use Rattle.time_machine.specs.declared.conf.Conf.{Conf}
-use Rattle.time_machine.specs.Line.{after_last, from_last, last_of, or_else}
+use Rattle.time_machine.specs.Entries.{gather, after_last, from_last, last_of, or_else}
 use Rattle.time_machine.specs.Words.{Words, words, poll_set, poll_at, greatest_count}
 use Rattle.time_machine.specs.Told.{Told, is_turning_point, is_accepted, offset_moved, count_sent}
-use Rattle.time_machine.specs.Machine.{told, told_by, outcome_at, outcomes}
+use Rattle.time_machine.specs.Machine.{told, told_by, outcome_at, outcomes, posted_by, moves_by, requests_of, moves_of}
+use Rattle.time_machine.specs.Report.{line_of, report_of}
 use Rattle.time_machine.specs.Events.{History, is_life, is_reset, is_rediscovery, mark_of}
 use Rattle.time_machine.specs.Growing.{MayFollow, Grows}
 use Rattle.time_machine.specs.Laws.{MarksAtLeast, LawOfJoins}
@@ -184,5 +185,20 @@ outcomes_join conf (e ∷ newer) older g =
     let same = ap (λ t. t.outcome) (told_once conf (told conf newer) (told conf older) e (quiet_told conf newer) g.1) in
     rw (outcomes_join conf newer older g.0, told_join conf newer older g.0, same) (append_assoc (outcomes conf older) (outcomes conf newer) _)
 
+gather_join : {A B : Type 0} (f : A → List B) (newer older : List A) → gather f (newer ++ older) ≡ gather f older ++ gather f newer
+gather_join f [] older = sym (append-nil (gather f older))
+gather_join f (x ∷ newer) older = rw (gather_join f newer older) (append_assoc (gather f older) (gather f newer) (f x))
+
+led_join : {B : Type 0} (f : Told → List B) (conf : Conf) (newer older : History) → Grows conf newer →
+    gather f (told conf (newer ++ older)) ≡ gather f (told conf older) ++ gather f (told conf newer)
+led_join f conf newer older g = rw (told_join conf newer older g) (gather_join f (told conf newer) (told conf older))
+
 pub histories_join : LawOfJoins
-histories_join conf newer older g h m = (grows_join conf newer older g h m, outcomes_join conf newer older h)
+unfolding requests_of moves_of report_of
+histories_join conf newer older g h m = (
+  grows_join conf newer older g h m,
+  outcomes_join conf newer older h,
+  led_join (λ t. posted_by t.outcome) conf newer older h,
+  led_join (λ t. moves_by t.outcome) conf newer older h,
+  led_join (λ t. line_of t.outcome) conf newer older h,
+)

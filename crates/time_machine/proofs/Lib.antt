@@ -1,8 +1,9 @@
 pub mod After
-pub mod Counting
-pub mod One
-pub mod Joins
-pub mod Positions
-pub mod Gathers
-pub mod Open
 pub mod Answered
+pub mod Counting
+pub mod Gathers
+pub mod Joins
+pub mod Lists
+pub mod Open
+pub mod Positions
+pub mod Room

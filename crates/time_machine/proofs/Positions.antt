@@ -10,7 +10,7 @@ use Rattle.capture_fmt.specs.declared.event.Event.TheVariants.{Life, Tick, Resyn
 use Rattle.time_machine.specs.declared.outcome.Outcome.{Outcome}
 use Rattle.time_machine.specs.declared.outcome.Outcome.TheVariants.{Started, Idle, Sent, Moved, Refused}
 use Rattle.time_machine.specs.declared.conf.Conf.{Conf}
-use Rattle.time_machine.specs.Line.{after_last, from_last, count_of, last_of, or_else}
+use Rattle.time_machine.specs.Entries.{after_last, from_last, count_of, last_of, or_else}
 use Rattle.time_machine.specs.Told.{Told, is_turning_point, is_accepted, has_sent, base_left, offset_moved, request_of, request_sent, count_sent}
 use Rattle.time_machine.specs.Words.{words, since, life_at, poll_set, poll_at, all_sent, some_of, greatest_count}
 use Rattle.time_machine.specs.Machine.{told, told_by}
@@ -18,7 +18,7 @@ use Rattle.time_machine.specs.Growing.{Grows, MayFollow}
 use Rattle.time_machine.specs.Events.{word_of, is_life, is_reset, reading_of, mark_of}
 use Rattle.time_machine.specs.Positions.{LawOfSince, LawOfThisLife, LawOfLifeWords, LawOfBase, LawOfSource, LawOfNothing, LawOfChanges, LawOfPoll, LawOfEight, LawOfGreatest, LawOfFirst, LawOfPrefix}
 use Rattle.time_machine.proofs.Counting.{counts_low}
-use Rattle.time_machine.proofs.One.{all_split}
+use Rattle.time_machine.proofs.Lists.{all_split}
 
 from_last_at : {A : Type 0} (test : A → Bool) (newer older : List A) (x : A) → AllByRecursion (λ y. test y ≡ false) newer → test x ≡ true →
     from_last test (newer ++ x ∷ older) ≡ newer ++ x ∷ []

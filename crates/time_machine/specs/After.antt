@@ -1,4 +1,5 @@
--- What one event does to the words that stand at the end of a history. This is what a member does: no contract that its callers see cites it.
+-- What one event does to the words that stand at the end of a history. This is what a member does: no contract that
+-- its callers see cites it.
 use Rattle.std.specs.Prelude.{ℕ, ◌+◌, max, Bool, ◌||◌, [], ◌∷◌, ◌++◌, Some, None, ℤ, if◌then◌else◌}
 use Rattle.capture_fmt.specs.declared.event.Event.{Event}
 use Rattle.capture_fmt.specs.declared.event.Event.TheVariants.{Life, Tick, Resync, Arrive}
@@ -11,10 +12,6 @@ use Rattle.time_machine.specs.Told.{base_moved}
 use Rattle.time_machine.specs.Words.{poll_set, Words}
 use Rattle.time_machine.specs.Verdict.{present_partner, verdict_at}
 use Rattle.time_machine.specs.Machine.{is_due, is_change, partner_as, count_at, poll_field}
-
--- the changes of partner are counted modulo the number of partners
-abbrev pub kept : Conf → Words → Words
-kept conf w = record w { changes = present_partner conf w }
 
 -- a Life keeps nothing but the greatest count
 abbrev pub after_life : Conf → Words → ℕ → Words
@@ -32,7 +29,8 @@ after_life conf w mark =
 
 -- a turning point closes all requests and sets the poll exponent to its least value
 abbrev pub after_turn : Conf → Words → Bool → Words
-after_turn conf w turns = record w { poll = poll_field conf w turns; open_requests = if turns then [] else w.open_requests }
+after_turn conf w turns =
+    record w { poll = poll_field conf w turns; open_requests = if turns then [] else w.open_requests }
 
 -- a request is sent, which is open from then on
 abbrev pub after_send : Conf → Words → (resets changes : Bool) → ℤ → ℕ → Words
@@ -44,7 +42,8 @@ after_send conf w resets changes now word =
       base = Some now;
       poll = poll_field conf w (resets || changes);
       changes = partner_as conf w resets changes;
-      open_requests = (if resets || changes then [] else w.open_requests) ++ record { count = count_at w; word = word; at = now } ∷ [];
+      open_requests = (if resets || changes then [] else w.open_requests)
+          ++ record { count = count_at w; word = word; at = now } ∷ [];
       source = w.source;
     }
 

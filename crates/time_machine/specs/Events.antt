@@ -25,7 +25,7 @@ is_life (Tick now word) = false
 is_life (Resync now word flags) = false
 is_life (Arrive now from bytes) = false
 
--- a request that was asked for, with the flag that the best partner is to be taken again
+-- a Resync whose flags have 4: the first partner in rank is to be taken again
 abbrev pub is_rediscovery : Event → Bool
 is_rediscovery (Life now mark) = false
 is_rediscovery (Tick now word) = false

@@ -11,7 +11,8 @@ use Rattle.time_machine.specs.Machine.{told}
 abbrev pub HasCounts : Words → Type 0
 HasCounts w = IsSome w.mark × (unwrap_or w.mark 0 + w.sent < 4294967295)
 
--- The event may follow. A Life may where its mark is at least every count sent before. Before any other event a Life came, and before one that may send, counts are left.
+-- The event may follow. A Life may where its mark is at least every count sent before. Before any other event a Life
+-- came, and before one that may send, counts are left.
 abbrev pub MayFollow : Conf → Words → Event → Type 0
 MayFollow conf w (Life now mark) = w.greatest ≤ mark
 MayFollow conf w (Tick now word) = HasCounts w

@@ -1,28 +1,51 @@
--- What holds of each history that grows.
-use Rattle.std.specs.Prelude.{◌≢◌, IfSome, ℕ, ◌<◌, ◌≤◌, ◌==◌, List, [], ◌∷◌, ◌++◌, length, Some, None, ◌≡◌, ◌↔◌, true, ℤ}
+-- What holds of histories. Where it says so, of those that grow.
+use Rattle.std.specs.Prelude.{◌≢◌, IfSome, ℕ, ◌<◌, ◌≤◌, ◌==◌, List, [], ◌∷◌, ◌++◌, length, Some, None, ◌≡◌, ◌↔◌, is_some, true, ℤ}
 use Rattle.std.specs.List.{AllByRecursion, IsDistinct}
+use Rattle.edge_traits.specs.declared.datagram.Addr.{Addr}
 use Rattle.capture_fmt.specs.declared.event.Event.{Event}
+use Rattle.capture_fmt.specs.declared.event.Event.TheVariants.{Arrive}
 use Rattle.base_specs.specs.Time.{IsTicksNear}
 use Rattle.ntp_wire.specs.declared.stamp.Stamp.{Stamp}
 use Rattle.ntp_wire.specs.Stamp.{ticks_of}
+use Rattle.ntp_wire.specs.Fields.{originate_of}
 use Rattle.time_machine.specs.declared.conf.Conf.{Conf}
 use Rattle.time_machine.specs.declared.outcome.Request.{Request}
 use Rattle.time_machine.specs.Events.{History, is_life, mark_of}
-use Rattle.time_machine.specs.Told.{Told, request_of, count_moved}
-use Rattle.time_machine.specs.Words.{all_sent, greatest_count, words, IsOpen}
+use Rattle.time_machine.specs.Told.{Told, request_of, request_sent, count_moved}
+use Rattle.time_machine.specs.Words.{all_sent, greatest_count, Words, words, IsOpen}
 use Rattle.time_machine.specs.Verdict.{is_answered}
-use Rattle.time_machine.specs.Machine.{told, outcome_at, outcomes, posted_by, moves_by, requests_of, moves_of, source_of}
+use Rattle.time_machine.specs.Machine.{told, sends, outcome_by, outcome_at, outcomes, posted_by, moves_by, requests_of, moves_of, source_of}
 use Rattle.time_machine.specs.Report.{line_of, report_of}
 use Rattle.time_machine.specs.Growing.{Grows}
-use Rattle.time_machine.specs.Line.{up_to_last}
+use Rattle.time_machine.specs.Entries.{up_to_last}
 
 -- each count that was sent is above all those that were sent before it
 abbrev pub CountsRise : List Told → Type 0
 CountsRise [] = Unit {0}
-CountsRise (t ∷ before) = IfSome (request_of t) (λ r. AllByRecursion (λ earlier. earlier.count < r.count) (all_sent before)) × CountsRise before
+CountsRise (t ∷ before) =
+    IfSome (request_of t) (λ r. AllByRecursion (λ earlier. earlier.count < r.count) (all_sent before))
+    × CountsRise before
 
 abbrev pub LawOfCounts : Type 0
 LawOfCounts = (conf : Conf) (history : History) → Grows conf history → CountsRise (told conf history)
+
+-- the request that an accepted arrival answers: it is open, the arrival brings back its timestamp in time, and the
+-- count is its count
+pub record AnswersOpen (before : List Told) (now : ℤ) (bytes : List ℕ) (count : ℕ) : Type 0 where
+  pub request : Request
+  pub is_open : IsOpen before request
+  pub answered : is_answered now (originate_of bytes) request ≡ true
+  pub counted : count ≡ request.count
+
+-- an accepted arrival answers an open request
+abbrev pub LawOfAccepted : Type 0
+LawOfAccepted = (conf : Conf) (history : History) (now : ℤ) (from : Addr) (bytes : List ℕ) →
+    IfSome (count_moved (outcome_at conf history (Arrive now from bytes)))
+    (λ count. AnswersOpen (told conf history) now bytes count)
+
+-- an event leads to a request just where it sends
+abbrev pub LawOfSends : Type 0
+LawOfSends = (conf : Conf) (w : Words) (e : Event) → is_some (request_sent e (outcome_by conf w e)) ≡ sends w e
 
 -- no earlier arrival was accepted for this count
 abbrev pub IsFirstMove : ℕ → List Told → Type 0
@@ -44,16 +67,18 @@ LawOfLives = (conf : Conf) (history : History) (e : Event) → Grows conf histor
 
 -- at most eight requests are open
 abbrev pub LawOfRoom : Type 0
-LawOfRoom = (conf : Conf) (history : History) → Grows conf history → length (words conf (told conf history)).open_requests ≤ 8
+LawOfRoom = (conf : Conf) (history : History) → length (words conf (told conf history)).open_requests ≤ 8
 
 -- no two open requests have the same count
 abbrev pub LawOfOne : Type 0
-LawOfOne = (conf : Conf) (history : History) → Grows conf history → IsDistinct (λ a b. a.count == b.count) (words conf (told conf history)).open_requests
+LawOfOne = (conf : Conf) (history : History) →
+    IsDistinct (λ a b. a.count == b.count) (words conf (told conf history)).open_requests
 
 -- an arrival answers one open request at most
 abbrev pub LawOfAnswer : Type 0
-LawOfAnswer = (conf : Conf) (history : History) (now : ℤ) (stamp : Stamp) (a b : Request) → Grows conf history →
-    IsOpen (told conf history) a → IsOpen (told conf history) b → is_answered now stamp a ≡ true → is_answered now stamp b ≡ true → a ≡ b
+LawOfAnswer = (conf : Conf) (history : History) (now : ℤ) (stamp : Stamp) (a b : Request) →
+    IsOpen (told conf history) a → IsOpen (told conf history) b → is_answered now stamp a ≡ true →
+    is_answered now stamp b ≡ true → a ≡ b
 
 -- the time at which a timestamp is read near an arrival is the one moment near it that the timestamp stands for
 abbrev pub LawOfTimes : Type 0
@@ -64,10 +89,16 @@ abbrev pub MarksAtLeast : ℕ → History → Type 0
 MarksAtLeast count [] = Unit {0}
 MarksAtLeast count (e ∷ history) = IfSome (mark_of e) (λ mark. count ≤ mark) × MarksAtLeast count history
 
--- A history that grows may come after another one, if each of its Lives' marks is at least every count of that one. The events of both then lead to what they lead to by themselves.
+-- A history that grows may come after another one, if each of its Lives' marks is at least every count of that one.
+-- The events of both then lead to what they lead to by themselves.
 abbrev pub LawOfJoins : Type 0
-LawOfJoins = (conf : Conf) (newer older : History) → Grows conf older → Grows conf newer → MarksAtLeast (greatest_count (told conf older)) newer →
-    Grows conf (newer ++ older) × (outcomes conf (newer ++ older) ≡ outcomes conf older ++ outcomes conf newer)
+LawOfJoins = (conf : Conf) (newer older : History) → Grows conf older → Grows conf newer →
+    MarksAtLeast (greatest_count (told conf older)) newer →
+    Grows conf (newer ++ older)
+    × (outcomes conf (newer ++ older) ≡ outcomes conf older ++ outcomes conf newer)
+    × (requests_of conf (newer ++ older) ≡ requests_of conf older ++ requests_of conf newer)
+    × (moves_of conf (newer ++ older) ≡ moves_of conf older ++ moves_of conf newer)
+    × (report_of conf (newer ++ older) ≡ report_of conf older ++ report_of conf newer)
 
 -- one more event adds what it leads to
 abbrev pub LawOfMore : Type 0
@@ -80,4 +111,5 @@ LawOfMore = (conf : Conf) (history : History) (e : Event) →
 -- before the first event nothing was sent, moved or written
 abbrev pub LawOfNone : Type 0
 LawOfNone = (conf : Conf) →
-    (outcomes conf [] ≡ []) × (requests_of conf [] ≡ []) × (moves_of conf [] ≡ []) × (report_of conf [] ≡ []) × (source_of conf [] ≡ None) × Grows conf []
+    (outcomes conf [] ≡ []) × (requests_of conf [] ≡ []) × (moves_of conf [] ≡ []) × (report_of conf [] ≡ [])
+    × (source_of conf [] ≡ None) × Grows conf []

@@ -1,4 +1,4 @@
-pub mod Line
+pub mod Entries
 pub mod Events
 pub mod Told
 pub mod Words
@@ -6,6 +6,7 @@ pub mod Verdict
 pub mod Machine
 pub mod Report
 pub mod Growing
+pub mod Kept
 pub mod After
 pub mod Laws
 pub mod Positions

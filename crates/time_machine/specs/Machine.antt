@@ -17,7 +17,7 @@ use Rattle.time_machine.specs.Events.{History, is_rediscovery, is_reset}
 use Rattle.time_machine.specs.Told.{Told}
 use Rattle.time_machine.specs.Words.{Words, words}
 use Rattle.time_machine.specs.Verdict.{address_at, verdict_at}
-use Rattle.time_machine.specs.Line.{gather}
+use Rattle.time_machine.specs.Entries.{gather}
 
 -- ---- Which events send, and to whom
 

@@ -4,7 +4,7 @@ use Rattle.std.specs.List.{AllByRecursion, Contains}
 use Rattle.capture_fmt.specs.declared.event.Event.{Event}
 use Rattle.time_machine.specs.declared.conf.Conf.{Conf}
 use Rattle.time_machine.specs.declared.outcome.Request.{Request}
-use Rattle.time_machine.specs.Line.{count_of}
+use Rattle.time_machine.specs.Entries.{count_of}
 use Rattle.time_machine.specs.Told.{Told, is_turning_point, is_accepted, has_sent, base_left, offset_moved}
 use Rattle.time_machine.specs.Words.{words, since, life_at, poll_set, all_sent, IsOpen}
 use Rattle.time_machine.specs.Machine.{told}
@@ -13,58 +13,71 @@ use Rattle.time_machine.specs.Events.{History, is_life, is_reset, reading_of, ma
 
 -- "since" begins at the last turning point, wherever that is
 abbrev pub LawOfSince : Type 0
-LawOfSince = (newer older : List Told) (t : Told) → AllByRecursion (λ s. is_turning_point s ≡ false) newer → is_turning_point t ≡ true →
+LawOfSince = (newer older : List Told) (t : Told) → AllByRecursion (λ s. is_turning_point s ≡ false) newer →
+    is_turning_point t ≡ true →
     since (newer ++ t ∷ older) ≡ newer ++ t ∷ []
 
 -- "this life" is what came after the last Life
 abbrev pub LawOfThisLife : Type 0
-LawOfThisLife = (newer older : List Told) (t : Told) → AllByRecursion (λ s. is_life s.event ≡ false) newer → is_life t.event ≡ true →
+LawOfThisLife = (newer older : List Told) (t : Told) → AllByRecursion (λ s. is_life s.event ≡ false) newer →
+    is_life t.event ≡ true →
     life_at (newer ++ t ∷ older) ≡ newer
 
 -- the last Life gives the mark, and the events after it that send are counted
 abbrev pub LawOfLifeWords : Type 0
-LawOfLifeWords = (conf : Conf) (newer older : List Told) (t : Told) → AllByRecursion (λ s. is_life s.event ≡ false) newer → is_life t.event ≡ true →
-    ((words conf (newer ++ t ∷ older)).mark ≡ mark_of t.event) × ((words conf (newer ++ t ∷ older)).sent ≡ count_of has_sent newer)
+LawOfLifeWords = (conf : Conf) (newer older : List Told) (t : Told) →
+    AllByRecursion (λ s. is_life s.event ≡ false) newer → is_life t.event ≡ true →
+    ((words conf (newer ++ t ∷ older)).mark ≡ mark_of t.event)
+    × ((words conf (newer ++ t ∷ older)).sent ≡ count_of has_sent newer)
 
 -- the base is left by the last event of this life that leaves one
 abbrev pub LawOfBase : Type 0
-LawOfBase = (conf : Conf) (newer older : List Told) (t : Told) → AllByRecursion (λ s. is_life s.event ≡ false) (newer ++ t ∷ []) →
-    AllByRecursion (λ s. base_left (reading_of s.event) s.outcome ≡ None) newer → IsSome (base_left (reading_of t.event) t.outcome) →
+LawOfBase = (conf : Conf) (newer older : List Told) (t : Told) →
+    AllByRecursion (λ s. is_life s.event ≡ false) (newer ++ t ∷ []) →
+    AllByRecursion (λ s. base_left (reading_of s.event) s.outcome ≡ None) newer →
+    IsSome (base_left (reading_of t.event) t.outcome) →
     (words conf (newer ++ t ∷ older)).base ≡ base_left (reading_of t.event) t.outcome
 
 -- the source is the partner at the last accepted arrival of this life
 abbrev pub LawOfSource : Type 0
-LawOfSource = (conf : Conf) (newer older : List Told) (t : Told) → AllByRecursion (λ s. is_life s.event ≡ false) (newer ++ t ∷ []) →
+LawOfSource = (conf : Conf) (newer older : List Told) (t : Told) →
+    AllByRecursion (λ s. is_life s.event ≡ false) (newer ++ t ∷ []) →
     AllByRecursion (λ s. is_accepted s ≡ false) newer → is_accepted t ≡ true →
     (words conf (newer ++ t ∷ older)).source ≡ Some t.partner
 
 -- a life in which nothing was sent or accepted has no base, and one in which nothing was accepted has no source
 abbrev pub LawOfNothing : Type 0
-LawOfNothing = (conf : Conf) (newer older : List Told) (t : Told) → AllByRecursion (λ s. is_life s.event ≡ false) newer → is_life t.event ≡ true →
+LawOfNothing = (conf : Conf) (newer older : List Told) (t : Told) →
+    AllByRecursion (λ s. is_life s.event ≡ false) newer → is_life t.event ≡ true →
     (AllByRecursion (λ s. (has_sent s || is_accepted s) ≡ false) newer → (words conf (newer ++ t ∷ older)).base ≡ None)
     × (AllByRecursion (λ s. is_accepted s ≡ false) newer → (words conf (newer ++ t ∷ older)).source ≡ None)
 
 -- the changes after the last Life or rediscovery are counted
 abbrev pub LawOfChanges : Type 0
-LawOfChanges = (conf : Conf) (newer older : List Told) (t : Told) → AllByRecursion (λ s. is_reset s.event ≡ false) newer → is_reset t.event ≡ true →
+LawOfChanges = (conf : Conf) (newer older : List Told) (t : Told) →
+    AllByRecursion (λ s. is_reset s.event ≡ false) newer → is_reset t.event ≡ true →
     (words conf (newer ++ t ∷ older)).changes ≡ count_of (λ s. s.changes) newer
 
 -- the last turning point sets the poll, from the poll before it
 abbrev pub LawOfPoll : Type 0
-LawOfPoll = (conf : Conf) (newer older : List Told) (t : Told) → AllByRecursion (λ s. is_turning_point s ≡ false) newer → is_turning_point t ≡ true →
+LawOfPoll = (conf : Conf) (newer older : List Told) (t : Told) →
+    AllByRecursion (λ s. is_turning_point s ≡ false) newer → is_turning_point t ≡ true →
     (words conf (newer ++ t ∷ older)).poll ≡ poll_set conf.limits (offset_moved t.outcome) (words conf older).poll
 
 -- the open requests are those that events from the last turning point on have sent
 abbrev pub LawOfOpen : Type 0
-LawOfOpen = (conf : Conf) (before : List Told) (r : Request) → IsOpen before r ↔ Contains (words conf before).open_requests r
+LawOfOpen = (conf : Conf) (before : List Told) (r : Request) →
+    IsOpen before r ↔ Contains (words conf before).open_requests r
 
--- so many requests are open as events sent from the last turning point on
+-- as many requests are open as events from the last turning point on have sent
 abbrev pub LawOfEight : Type 0
-LawOfEight = (conf : Conf) (before : List Told) → length (words conf before).open_requests ≡ count_of has_sent (since before)
+LawOfEight = (conf : Conf) (before : List Told) →
+    length (words conf before).open_requests ≡ count_of has_sent (since before)
 
 -- the greatest count is at most a mark just where every count that was sent is
 abbrev pub LawOfGreatest : Type 0
-LawOfGreatest = (conf : Conf) (before : List Told) (mark : ℕ) → ((words conf before).greatest ≤ mark) ↔ AllByRecursion (λ r. r.count ≤ mark) (all_sent before)
+LawOfGreatest = (conf : Conf) (before : List Told) (mark : ℕ) →
+    ((words conf before).greatest ≤ mark) ↔ AllByRecursion (λ r. r.count ≤ mark) (all_sent before)
 
 -- the first event of a history that grows is a Life
 abbrev pub LawOfFirst : Type 0
@@ -72,4 +85,5 @@ LawOfFirst = (conf : Conf) (newer : History) (e : Event) → Grows conf (newer +
 
 -- what came of earlier events doesn't hang on later ones
 abbrev pub LawOfPrefix : Type 0
-LawOfPrefix = (conf : Conf) (newer older : History) → (fresh : List Told) × (told conf (newer ++ older) ≡ fresh ++ told conf older) × (length fresh ≡ length newer)
+LawOfPrefix = (conf : Conf) (newer older : History) →
+    (fresh : List Told) × (told conf (newer ++ older) ≡ fresh ++ told conf older) × (length fresh ≡ length newer)

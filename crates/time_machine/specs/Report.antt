@@ -11,7 +11,7 @@ use Rattle.time_machine.specs.declared.outcome.Outcome.TheVariants.{Started, Idl
 use Rattle.time_machine.specs.declared.conf.Conf.{Conf}
 use Rattle.time_machine.specs.Events.{History}
 use Rattle.time_machine.specs.Machine.{told}
-use Rattle.time_machine.specs.Line.{gather}
+use Rattle.time_machine.specs.Entries.{gather}
 
 -- the four numbers of an address, the first one the highest byte, and its port
 abbrev pub addr_text : Addr → List ℕ
@@ -34,12 +34,13 @@ reason_text BadDigest = codes "BadDigest"
 reason_text BadTimes = codes "BadTimes"
 reason_text TooBig = codes "TooBig"
 
--- the line of an outcome, with its line feed; where nothing was sent there is none
+-- the line of an outcome, with its line feed; an idle Tick has none
 abbrev pub line_of : Outcome → List ℕ
 line_of (Started mark) = codes "life mark=" ++ decimal mark ++ 10 ∷ []
 line_of Idle = []
 line_of (Sent to count bytes) = codes "send n=" ++ decimal count ++ codes " to=" ++ addr_text to ++ 10 ∷ []
-line_of (Moved count offset how) = codes "moved n=" ++ decimal count ++ codes " offset=" ++ signed_decimal offset ++ codes " by=" ++ how_text how ++ 10 ∷ []
+line_of (Moved count offset how) = codes "moved n=" ++ decimal count ++ codes " offset=" ++ signed_decimal offset
+    ++ codes " by=" ++ how_text how ++ 10 ∷ []
 line_of (Refused reason) = codes "refused reason=" ++ reason_text reason ++ 10 ∷ []
 
 -- the lines of a history, in the order of its events

@@ -24,11 +24,11 @@ use Rattle.time_machine.specs.Words.{Words}
 
 -- ---- The bytes of a reply
 
--- it has not the length of a message of this kind
+-- the length is not that of a message of this kind
 abbrev pub is_bad_length : Kind → List ℕ → Bool
 is_bad_length kind bytes = not (length bytes == kind_length kind)
 
--- it is not a server's
+-- the mode is not 4, server
 abbrev pub is_bad_mode : ℕ → Bool
 is_bad_mode mode = not (mode == 4)
 
@@ -36,7 +36,8 @@ is_bad_mode mode = not (mode == 4)
 abbrev pub is_bad_stratum : (leap stratum : ℕ) → Bool
 is_bad_stratum leap stratum = nat_lt stratum 1 || nat_lt 15 stratum || leap == 3
 
--- Another account is named, or in an extended reply another digest than that of this profile. What else stands in the tail is not looked at, bit 31 of a short key identifier neither.
+-- Another account is named, or in an extended reply a SignatureHashID other than 1. What else stands in the tail is
+-- not looked at, bit 31 of a short key identifier neither.
 abbrev pub is_bad_key_id : Kind → ℕ → List ℕ → Bool
 is_bad_key_id Short rid bytes = not (short_rid_of bytes == rid)
 is_bad_key_id Extended rid bytes = not (key_id_of bytes == rid) || not (hash_of bytes == 1)
@@ -48,7 +49,8 @@ has_digest kind key bytes = bytes_eq (sum_at kind bytes) (digest_at kind key byt
 -- the checksum is the digest under neither the current nor the previous key, whichever the key identifier asks for
 abbrev pub is_bad_digest : Kind → Account → List ℕ → Bool
 is_bad_digest kind account bytes =
-    not (has_digest kind account.current bytes) && not (option_map_or (λ key. has_digest kind key bytes) account.previous false)
+    not (has_digest kind account.current bytes)
+    && not (option_map_or (λ key. has_digest kind key bytes) account.previous false)
 
 -- ---- The partner and the request
 
@@ -66,14 +68,15 @@ is_same_addr a b = a.ip == b.ip && a.port == b.port
 abbrev pub is_bad_source : Conf → Words → Addr → Bool
 is_bad_source conf w from = not (is_same_addr from (address_at conf (present_partner conf w)))
 
--- the timestamp is the request's, which can be answered at this reading: from its sending on, for ten seconds
+-- the timestamp is the request's, which can be answered at this reading: from its sending to ten seconds after, both
+-- ends included
 abbrev pub is_answered : ℤ → Stamp → Request → Bool
 is_answered now stamp r =
     r.count == stamp.seconds && r.word == stamp.fraction && int_le r.at now && int_le now (r.at +ℤ pos 100000000)
 
 -- ---- The four times: the request left and arrived, the reply left and arrived
 
--- how far the partner's clock is ahead, truncated toward zero
+-- how far the partner's clock is ahead: half the sum of the two differences, truncated toward zero
 abbrev pub offset_of : (t1 t2 t3 t4 : ℤ) → ℤ
 offset_of t1 t2 t3 t4 = int_div ((t2 -ℤ t1) +ℤ (t3 -ℤ t4)) (pos 2)
 
@@ -99,7 +102,8 @@ verdict_by_times limits now r t2 t3 =
     if has_bad_times r.at t2 t3 now then Refused BadTimes
     else moved_by r.count (offset_of r.at t2 t3 now) (judged limits (offset_of r.at t2 t3 now))
 
--- The reasons from NoRequest on, for the open request that is answered, if there is one. Both times are read near this arrival.
+-- The reasons from NoRequest on, for the open request that is answered, if there is one. Both times are read near
+-- this arrival.
 abbrev pub verdict_on : Conf → ℤ → List ℕ → Option Request → Outcome
 verdict_on conf now bytes None = Refused NoRequest
 verdict_on conf now bytes (Some r) =

@@ -1,4 +1,5 @@
--- What stands at the end of a history. Each word looks back over all that was before, the last event first, and knows no other word.
+-- What stands at the end of a history. Each word looks back over all that was before, the last event first, and knows
+-- no other word.
 use Rattle.std.specs.Prelude.{◌≡◌, ℕ, max, List, [], ◌∷◌, ◌++◌, Option, Some, None, ℤ, if◌then◌else◌}
 use Rattle.phase_rule.specs.declared.limits.Limits.{Limits}
 use Rattle.phase_rule.specs.Rule.{next_poll}
@@ -6,13 +7,13 @@ use Rattle.time_machine.specs.declared.outcome.Request.{Request}
 use Rattle.time_machine.specs.declared.conf.Conf.{Conf}
 use Rattle.time_machine.specs.Events.{reading_of, is_life, is_reset, mark_of}
 use Rattle.time_machine.specs.Told.{Told, request_of, has_sent, count_sent, offset_moved, is_accepted, is_turning_point, base_left}
-use Rattle.time_machine.specs.Line.{after_last, from_last, count_of, last_of}
+use Rattle.time_machine.specs.Entries.{after_last, from_last, count_of, last_of}
 
 -- what came after the last Life
 abbrev pub life_at : List Told → List Told
 life_at before = after_last (λ t. is_life t.event) before
 
--- what came from the last turning point on, which is the first of it
+-- what came from the last turning point on, itself included
 abbrev pub since : List Told → List Told
 since before = from_last is_turning_point before
 
@@ -38,7 +39,8 @@ abbrev pub greatest_count : List Told → ℕ
 greatest_count [] = 0
 greatest_count (t ∷ before) = max (count_sent t.outcome) (greatest_count before)
 
--- the poll exponent that a turning point sets, from the one before it: after an accepted arrival by its offset, and else the least one
+-- the poll exponent that a turning point sets, from the one before it: after an accepted arrival by its offset, and
+-- else the least one
 abbrev pub poll_set : Limits → Option ℤ → ℕ → ℕ
 poll_set limits (Some offset) poll = next_poll limits poll offset
 poll_set limits None poll = limits.min_poll
@@ -47,16 +49,18 @@ poll_set limits None poll = limits.min_poll
 abbrev pub poll_at : Limits → List Told → ℕ
 poll_at limits [] = limits.min_poll
 poll_at limits (t ∷ before) =
-    if is_turning_point t then poll_set limits (offset_moved t.outcome) (poll_at limits before) else poll_at limits before
+    if is_turning_point t then poll_set limits (offset_moved t.outcome) (poll_at limits before)
+    else poll_at limits before
 
 pub record Words : Type 0 where
   -- the mark of the last Life
   pub mark : Option ℕ
-  -- how many requests were sent since
+  -- how many requests were sent since that Life
   pub sent : ℕ
   -- the greatest count that was ever sent
   pub greatest : ℕ
-  -- the base: what the last event of this life has left that sends or is accepted
+  -- the base, from which the polling interval counts: the reading that the last event of this life has left which
+  -- sent or was accepted
   pub base : Option ℤ
   pub poll : ℕ
   -- how many changes of partner there were after the last Life or rediscovery

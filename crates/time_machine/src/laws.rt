@@ -1,12 +1,13 @@
 //! Laws of the time machine.
-ghost use Rattle.time_machine.specs.Laws.{LawOfAnswer, LawOfCounts, LawOfJoins, LawOfLives, LawOfMore, LawOfMoves, LawOfNone, LawOfOne, LawOfRoom, LawOfTimes};
+ghost use Rattle.time_machine.specs.Laws.{LawOfAccepted, LawOfAnswer, LawOfCounts, LawOfJoins, LawOfLives, LawOfMore, LawOfMoves, LawOfNone, LawOfOne, LawOfRoom, LawOfSends, LawOfTimes};
 ghost use Rattle.time_machine.specs.Positions.{LawOfBase, LawOfChanges, LawOfEight, LawOfFirst, LawOfGreatest, LawOfLifeWords, LawOfNothing, LawOfOpen, LawOfPoll, LawOfPrefix, LawOfSince, LawOfSource, LawOfThisLife};
 
-/// What holds of each history that grows, whatever is in it.
+/// What holds of histories, whatever is in them: of those that grow, of every one where that isn't asked.
 pub fn laws_of_histories()
     // Each count that is sent is above all those that were sent before it.
     ensures counts { LawOfCounts }
-    // No two accepted arrivals answer the same request, and none answers one of an earlier life.
+    // An accepted arrival answers an open request. No two answer the same one, and none one of an earlier life.
+    ensures accepted { LawOfAccepted }
     ensures moves { LawOfMoves }
     ensures lives { LawOfLives }
     // At most eight requests are open, and an arrival answers one of them at most.
@@ -17,7 +18,8 @@ pub fn laws_of_histories()
     ensures times { LawOfTimes }
     // One history may come after another.
     ensures joins { LawOfJoins }
-    // Each event adds what it leads to.
+    // An event sends where it says so, and adds what it leads to.
+    ensures sends { LawOfSends }
     ensures none { LawOfNone }
     ensures more { LawOfMore }
 {}
@@ -29,7 +31,7 @@ pub fn laws_of_positions()
     ensures life_words { LawOfLifeWords }
     ensures base { LawOfBase }
     ensures nothing { LawOfNothing }
-    ensures partner { LawOfSource }
+    ensures source { LawOfSource }
     ensures changes { LawOfChanges }
     ensures poll { LawOfPoll }
     ensures open_requests { LawOfOpen }

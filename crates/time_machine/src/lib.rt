@@ -1,19 +1,21 @@
 //! What a member of a domain does with whatever happens to it, as a function of its whole history.
 //!
-//! An event of `capture_fmt` is a Life (a run began, which sends the counts above a mark), a Tick (a turn began), a Resync
-//! (a request was asked for) or an Arrive (a datagram came). `specs/` says what each event of a history leads to: nothing,
-//! a request to the present partner, a correction of the clock by a reply, or a refusal for the first reason that applies.
-//! There is no member here and no code but types: settings ([`Conf`], [`Partners`]), outcomes, and the laws.
+//! An event of `capture_fmt` is a Life (a run began, which sends the counts above a mark), a Tick (a turn began), a
+//! Resync (a request was asked for) or an Arrive (a datagram came). `specs/` says what each event of a history leads
+//! to: nothing, a request to the present partner, a correction of the clock by a reply, or a refusal for the first
+//! reason that applies. There is no member here and no code but types: settings ([`Conf`], [`Partners`]), outcomes,
+//! and the laws.
 //!
 //! It stands on the crates of messages, accounts, limits and captures for their words. The layer above may rely on
-//! [`laws_of_histories`]: counts rise, no two replies are accepted for one request, at most eight requests are open, and
-//! one history may come after another. A reader who doubts a definition reads [`laws_of_positions`] beside it, which says
-//! the same of places in a history.
+//! [`laws_of_histories`]: counts rise, no two replies are accepted for one request, at most eight requests are open,
+//! and one history may come after another. A reader who doubts a definition reads [`laws_of_positions`] beside it,
+//! which says the same of places in a history.
 //!
 //! The definitions, in the order to read them: `specs/Events.antt` (what happens), `Told.antt` (what came of it),
-//! `Words.antt` (what stands at the end of a history), `Verdict.antt` (the reasons), `Machine.antt` (what an event leads
-//! to, and what a history sends and moves), `Report.antt` (its lines), `Growing.antt` (which events may follow one
-//! another), `Laws.antt` and `Positions.antt`. `Line.antt` has words on lists, and `After.antt` what one event changes.
+//! `Words.antt` (what stands at the end of a history), `Verdict.antt` (the reasons), `Machine.antt` (what an event
+//! leads to, and what a history sends and moves), `Report.antt` (its lines), `Growing.antt` (which events may follow
+//! one another), `Laws.antt` and `Positions.antt`. `Entries.antt` has words on lists, and `After.antt` what one event
+//! changes.
 #![tactic(auto)]
 
 mod conf;

@@ -5,7 +5,8 @@ use edge_traits::{Addr, Datagram};
 /// sending, in ticks of 100 ns since 1 January 1601.
 #[derive(Clone, Copy, Debug, Default, PartialEq, Eq)]
 pub struct Request {
-    /// The seconds of its transmit timestamp: how many requests were ever sent, this one included.
+    /// The seconds of its transmit timestamp: the mark of its life, and one for each request sent since, this one
+    /// included. No other request has it.
     pub count: u32,
     /// The fraction of its transmit timestamp.
     pub word: u32,
@@ -54,7 +55,7 @@ pub enum Outcome {
     Started {
         mark: u32,
     },
-    /// Nothing is sent.
+    /// A Tick that sends nothing.
     Idle,
     /// A request is to be sent.
     Sent {

@@ -119,8 +119,8 @@ send n=5 to=10.0.0.2:123\n"
 
 /// Limits of a member as they are by default.
 const REAL: Limits = Limits {
-    max_pos: 172_800,
-    max_neg: 172_800,
+    max_pos: 4_294_967_295,
+    max_neg: 4_294_967_295,
     max_allowed: 300,
     min_poll: 10,
     max_poll: 15,

@@ -8,8 +8,8 @@ use std::test::Fail;
 const T1: i64 = R0 + 20_480_000_000;
 
 /// The header of a server's reply to it, received 3 seconds after `T1` and sent a millisecond after that.
-const HEADER: [u8; 48] =
-    *b"\x1C\x01\x0A\xE9\0\0\0\0\0\0\0\0LOCL\xE1\xB6\x67\x83\0\0\0\0\0\0\0\x03\0\0\0\x03\xE1\xB6\x67\x83\0\0\0\0\xE1\xB6\x67\x83\0\x41\x89\x38";
+const HEADER: [u8; 48] = *b"\x1C\x01\x0A\xE9\0\0\0\0\0\0\0\0LOCL\xE1\xB6\x67\x83\0\0\0\0\
+\0\0\0\x03\0\0\0\x03\xE1\xB6\x67\x83\0\0\0\0\xE1\xB6\x67\x83\0\x41\x89\x38";
 
 // With the header in the file `header`, for the current key 00 01 .. 0F and the previous key 11 .. 11:
 // (echo KEY | xxd -r -p; cat header) | openssl md5

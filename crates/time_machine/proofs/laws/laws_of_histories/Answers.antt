@@ -1,14 +1,15 @@
 use Rattle.time_machine.proofs.Joins.{histories_join}
-use Rattle.time_machine.proofs.Counting.{counts_rise, moves_once, moves_live, room_is_left}
-use Rattle.time_machine.proofs.One.{one_open}
+use Rattle.time_machine.proofs.Counting.{counts_rise, moves_once, moves_live}
+use Rattle.time_machine.proofs.Room.{room_is_left, one_open}
 use Rattle.time_machine.proofs.Gathers.{none_leads, more_leads}
-use Rattle.time_machine.proofs.Answered.{one_answered, one_time, is_time}
+use Rattle.time_machine.proofs.Answered.{answers_open, one_answered, one_time, is_time, sends_so}
 use Rattle.time_machine.proofs.laws.laws_of_histories.Goals as goal
 
 pub returns : goal.returns
 returns c =
     record {
       counts = counts_rise;
+      accepted = answers_open;
       moves = moves_once;
       lives = moves_live;
       room = room_is_left;
@@ -16,6 +17,7 @@ returns c =
       answer = one_answered;
       times = λ stamp near t. (one_time stamp near t, is_time stamp near t);
       joins = histories_join;
+      sends = sends_so;
       none = none_leads;
       more = more_leads;
     }

@@ -1,4 +1,5 @@
--- Words on a line of entries that is written newest first: the head is the last entry, and the tail is what was before it.
+-- Words on a line of entries that is written newest first: the head is the last entry, and the tail is what was
+-- before it.
 use Rattle.std.specs.Prelude.{ℕ, ◌+◌, Bool, List, [], ◌∷◌, ◌++◌, Option, Some, None, if◌then◌else◌}
 
 module _ {A : Type 0} where
