@@ -46,7 +46,7 @@ dissect() {
     local name=$1 file=$2 mac
     compared=0
     od -Ax -tx1 -v "$file" >"$folder/dump"
-    text2pcap -q -u 40000,123 "$folder/dump" "$folder/pcap" || exit 1
+    text2pcap -q -u 40000,123 "$folder/dump" "$folder/pcap" 2>/dev/null || exit 1
     tshark -r "$folder/pcap" -T pdml 2>/dev/null >"$folder/pdml"
     "$program" "/show:$(od -An -tx1 -v "$file" | tr -d ' \n')" >"$folder/lines" || failed=1
     compare "$name" leap "$(shown_of flags.li)"

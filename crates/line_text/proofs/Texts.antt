@@ -11,8 +11,9 @@ is_front lines text breaks =
     let front = take breaks.front breaks.line in
     let rest = drop breaks.front breaks.line ++ joined breaks.after in
     let whole : joined lines ≡ first ++ (breaks.line ++ joined breaks.after) =
-        ap joined breaks.are ∙ flat_map-append (λ (l : List ℕ). l) breaks.before (breaks.line ∷ breaks.after) in
+    ap joined breaks.are ∙ flat_map-append (λ (l : List ℕ). l) breaks.before (breaks.line ∷ breaks.after) in
     let line : breaks.line ++ joined breaks.after ≡ front ++ rest =
-        ap (λ (l : List ℕ). l ++ joined breaks.after) (sym (take-append-drop breaks.front breaks.line)) ∙ append_assoc front (drop breaks.front breaks.line) (joined breaks.after) in
-    (rest,
-     whole ∙ ap (λ (l : List ℕ). first ++ l) line ∙ sym (append_assoc first front rest) ∙ ap (λ (l : List ℕ). l ++ rest) (sym breaks.is))
+    ap (λ (l : List ℕ). l ++ joined breaks.after) (sym (take-append-drop breaks.front breaks.line)) ∙ append_assoc front (drop breaks.front breaks.line) (joined breaks.after) in (
+      rest,
+      whole ∙ ap (λ (l : List ℕ). first ++ l) line ∙ sym (append_assoc first front rest) ∙ ap (λ (l : List ℕ). l ++ rest) (sym breaks.is),
+    )

@@ -1,4 +1,5 @@
-//! The program `w32tm`: it answers a time request on standard input as a domain controller does.
+//! The program `w32tm`: it answers a time request on standard input as a domain controller does, or prints the
+//! fields of a message that is given in hexadecimal.
 //!
 //! There is little here, and all of it is the edge: the words of the command line, the devices of the
 //! machine, the line on standard error and the exit code. The work and its contract are the call `w32tm` of

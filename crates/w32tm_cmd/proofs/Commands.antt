@@ -1,5 +1,5 @@
 -- Which command the words spell.
-use Rattle.std.proofs.Common.{◌≡◌, ℕ, List, Result, Ok, Err, sym, ◌∙◌}
+use Rattle.std.proofs.Common.{◌≡◌, ℕ, List, Result, Ok, Err}
 use Rattle.w32tm_text.specs.declared.words.Action.{Action}
 use Rattle.w32tm_text.specs.declared.words.BadWords.{BadWords}
 use Rattle.w32tm_text.specs.declared.words.Command.{Command}

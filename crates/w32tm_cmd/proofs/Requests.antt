@@ -1,5 +1,5 @@
 -- A request that was taken, and what is answered to it.
-use Rattle.std.proofs.Common.{◌≡◌, ◌<◌, ◌⊎◌, ℕ, ℤ, List, [], ◌∷◌, length, take, inl, inr, subst, arith}
+use Rattle.std.proofs.Common.{◌≡◌, ◌<◌, ◌⊎◌, ℕ, ℤ, List, [], ◌∷◌, length, take, arith}
 use Rattle.std.proofs.lemmas.List.{length-take}
 use Rattle.edge_traits.specs.Clock.{GaveReadings}
 use Rattle.edge_traits.specs.Fill.{Fills}

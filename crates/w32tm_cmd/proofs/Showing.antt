@@ -1,9 +1,8 @@
 -- What follows from a run of `/show` for each answer.
-use Rattle.std.proofs.Common.{◌≡◌, ◌↔◌, ◌+◌, ◌≤◌, ℕ, List, length, refl, sym, ◌∙◌, arith}
+use Rattle.std.proofs.Common.{◌≡◌, ℕ, List, length, refl, arith}
 use Rattle.base_specs.specs.Counts.{Fails, Rose}
 use Rattle.ms_auth.specs.Packet.{IsPacketLength}
 use Rattle.ms_auth.proofs.Uniqueness.{packet_length}
-use Rattle.dc_sign.specs.declared.outcome.Refusal.{Refusal}
 use Rattle.dc_sign.specs.declared.outcome.Refusal.TheVariants.{BadLength}
 use Rattle.w32tm_cmd.specs.Seen.{Seen, HasNoFault}
 use Rattle.w32tm_cmd.specs.Show.{Shows, IsShowAnswer}

@@ -6,7 +6,7 @@ use edge_io::{Clock, Sink, Source};
 pub struct Outside<S: Source, O: Sink, C: Clock> {
     /// What is read: for `/sign` the request.
     pub capture_in: S,
-    /// What is written: for `/sign` the reply.
+    /// What is written: for `/sign` the reply, for `/show` the lines of the message.
     pub out: O,
     /// What the time is.
     pub clock: C,

@@ -1,5 +1,5 @@
 -- The lines of a message have bytes in them.
-use Rattle.std.proofs.Common.{◌≡◌, ◌<◌, ℕ, zero, suc, List, [], ◌∷◌, length, All, subst, sym, arith}
+use Rattle.std.proofs.Common.{◌<◌, ℕ, zero, suc, List, length, All, arith}
 use Rattle.ntp_wire.specs.declared.header.Header.{Header}
 use Rattle.ms_auth.specs.declared.packet.Packet.{Packet}
 use Rattle.ms_auth.specs.declared.packet.Tail.{Tail}

@@ -5,7 +5,7 @@ ghost use Rattle.std.specs.List.{list_all};
 ghost use Rattle.w32tm_text.specs.Status.{code_of, line_of};
 
 use dc_sign::Refusal;
-use line_text::LineText;
+use line_text::{Line, LineText};
 
 /// How a command ended.
 #[derive(Clone, Copy, Debug, PartialEq, Eq)]
@@ -61,14 +61,12 @@ pub fn status_line(status: &Status) -> LineText
 }
 
 /// A text that fits a line.
-#[tactic(auto, using(crate::proofs::Lines::is_ascii_text))]
 fn line(text: &str) -> LineText
     requires within { length text.now ≤ 96 }
     requires ascii { IsTrue (list_all is_ascii text.now) }
     ensures { result ≡ text.now }
 {
-    match LineText::from_slice(text.as_bytes()) {
-        Some(line) => line,
-        None => unreachable!(),
-    }
+    let mut line = Line::new();
+    line.add_text(text);
+    LineText::from_line(&line)
 }

@@ -1,7 +1,5 @@
-use Rattle.std.proofs.Common.{◌≡◌, List, ℕ, refl, sym, subst}
+use Rattle.std.proofs.Common.{◌≡◌, refl}
 use Rattle.w32tm_text.specs.declared.words.Action.TheVariants.{Sign, Show}
-use Rattle.w32tm_cmd.specs.Show.{Shows}
-use Rattle.w32tm_cmd.specs.Sign.{Signs}
 use Rattle.w32tm_cmd.proofs.Commands.{is_read, same_action}
 use Rattle.w32tm_cmd.proofs.Showing.{refused_length, length_refused}
 use Rattle.w32tm_cmd.proofs.Signing.{decides_by, completes, completes_refused}

@@ -1,4 +1,4 @@
-use Rattle.std.proofs.Common.{◌≡◌, ◌<◌, ◌≤◌, ℕ, List, length, take, refl, sym, subst, ◌∙◌}
+use Rattle.std.proofs.Common.{◌<◌, ◌≤◌, ℕ, List, length, take, refl, sym, subst, ◌∙◌}
 use Rattle.base_specs.specs.Told.{Added}
 use Rattle.base_specs.specs.Counts.{Fails}
 use Rattle.base_specs.proofs.Telling.{added_none}

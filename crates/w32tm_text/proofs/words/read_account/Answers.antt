@@ -1,4 +1,4 @@
-use Rattle.std.proofs.Common.{◌≡◌, ◌<◌, ◌^◌, ◌++◌, ◌∷◌, ℕ, List, Option, Some, decimal, sym, arith}
+use Rattle.std.proofs.Common.{decimal, sym, arith}
 use Rattle.text_grammar.proofs.Decimals.{no_colon}
 use Rattle.w32tm_text.proofs.Spelling.{account_is}
 use Rattle.w32tm_text.proofs.words.read_account.Goals as goal

@@ -1,6 +1,4 @@
-use Rattle.std.proofs.Common.{◌≡◌, Some, sym, subst}
-use Rattle.key_book.specs.declared.account.Account.{Account}
-use Rattle.w32tm_text.specs.declared.words.Action.{Action}
+use Rattle.std.proofs.Common.{◌≡◌, sym, subst}
 use Rattle.w32tm_text.specs.declared.words.Action.TheVariants.{Sign, Show}
 use Rattle.w32tm_text.specs.Words.{SpellsAccount}
 use Rattle.w32tm_text.proofs.Spelling.{sign_or_show}

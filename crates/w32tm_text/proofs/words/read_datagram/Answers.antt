@@ -1,4 +1,4 @@
-use Rattle.std.proofs.Common.{◌<◌, ◌≤◌, length, ap, arith}
+use Rattle.std.proofs.Common.{◌≤◌, length, arith}
 use Rattle.w32tm_text.proofs.Spelling.{datagram_is, one_datagram, too_many_digits}
 use Rattle.w32tm_text.proofs.words.read_datagram.Goals as goal
 

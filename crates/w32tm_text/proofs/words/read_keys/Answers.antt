@@ -1,6 +1,4 @@
-use Rattle.std.proofs.Common.{◌≡◌, ℕ, List, Option, Some, None, refl, sym, ◌∙◌, ap, arith}
-use Rattle.w32tm_text.specs.Words.{SpellsKeys}
-use Rattle.w32tm_text.proofs.Spelling.{AreKeysAt, keys_at}
+use Rattle.w32tm_text.proofs.Spelling.{keys_at}
 use Rattle.w32tm_text.proofs.words.read_keys.Goals as goal
 
 pub returns-in_err-read_key-in-Some-clause-found : goal.returns-in_err-read_key-in-Some-clause-found
