@@ -22,6 +22,7 @@ mod correction;
 mod entropy;
 mod link;
 mod pieces;
+mod random;
 mod reader;
 mod real_clock;
 mod session;
@@ -29,6 +30,7 @@ mod sink;
 mod source;
 #[cfg(test)]
 mod tests;
+mod udp_link;
 mod wire;
 mod writer;
 
@@ -39,10 +41,12 @@ pub use edge_traits::{
 };
 pub use entropy::ScriptEntropy;
 pub use link::ScriptLink;
+pub use random::{RandomFile, file_source, random_file};
 pub use reader::ReaderSource;
 pub use real_clock::RealClock;
 pub use sink::{NullSink, ScriptSink};
 pub use source::ScriptSource;
+pub use udp_link::UdpLink;
 pub use wire::ScriptWire;
 pub use writer::WriterSink;
 

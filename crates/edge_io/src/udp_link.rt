@@ -1,0 +1,172 @@
+//! Datagrams of a socket.
+ghost use Rattle.std.specs.Prelude.{◌≡◌, ◌≢◌, ◌≤◌, [], ◌∷◌, IfErr, IfOk, None, length, take};
+ghost use Rattle.std.specs.IoError.{error_kind};
+ghost use Rattle.std.specs.Net.Addr.{ipv4_bits, IsIpv4OfBits};
+ghost use Rattle.std.specs.Net.Socket.{v4_ip, v4_port};
+ghost use Rattle.edge_traits.specs.Link.{GaveReceipts, ReceiptCounts, ReceiptFits, TriedSends};
+ghost use Rattle.edge_traits.specs.Sink.{PutCounts};
+
+use edge_traits::{Addr, DATAGRAM_LEN, Datagram, Link, Put, Receipt};
+use std::io::{self, ErrorKind};
+use std::net::{Ipv4Addr, Net, SocketAddr, SocketAddrV4, UdpSocket};
+use std::time::Duration;
+
+/// How many seconds a receive waits.
+const WAIT_SECONDS: u64 = 1;
+
+/// A socket on one port of all IPv4 addresses of the machine. It tells nothing, and is connected to no one.
+///
+/// A receive waits up to one second, and is quiet then. Of a longer datagram the first 256 bytes are taken. A call
+/// that a signal cuts short is made again, and is no fault.
+#[derive(Drop)]
+pub struct UdpLink {
+    socket: UdpSocket,
+    faults: u64,
+}
+
+impl UdpLink {
+    /// A link on this port, or on any free one where that is 0. It fails where the port can't be had.
+    pub fn bind<R: Net>(net: &R, port: u16) -> io::Result<UdpLink>
+        ensures told { IfOk result (λ l. ⟦<UdpLink as Link>⟧.told l ≡ None) }
+        ensures faults { IfOk result (λ l. ⟦<UdpLink as Link>⟧.faults l ≡ 0) }
+    {
+        let socket = UdpSocket::bind(net, SocketAddrV4::new(Ipv4Addr::UNSPECIFIED, port))?;
+        socket.set_read_timeout(Some(Duration::from_secs(WAIT_SECONDS)))?;
+        Ok(UdpLink { socket, faults: 0 })
+    }
+
+    /// The port that the link is on.
+    pub fn port(&self) -> io::Result<u16> {
+        Ok(self.socket.local_addr()?.port())
+    }
+}
+
+impl Link for UdpLink {
+    ghost use Rattle.std.specs.Prelude.{None};
+
+    ghost told = { λ _. None };
+
+    ghost faults = { λ l. l.faults };
+
+    fn send(&mut self, to: Addr, bytes: &[u8]) -> Put
+        ensures sends { TriedSends None None
+            (record { to = to; bytes = take 256 bytes.now; put = result } ∷ []) }
+        ensures cause { PutCounts result self.old.faults self.new.faults }
+    {
+        let sent = Datagram::from_slice(bytes);
+        match send_again(&self.socket, sent.as_slice(), socket_addr_of(to)) {
+            Ok(count) if count == sent.as_slice().len() => Put::Done,
+            _ => {
+                self.faults = self.faults.saturating_add(1);
+                Put::Failed
+            }
+        }
+    }
+
+    fn recv(&mut self) -> Receipt
+        ensures fits { ReceiptFits result }
+        ensures gives { GaveReceipts None None (result ∷ []) }
+        ensures cause { ReceiptCounts result self.old.faults self.new.faults }
+    {
+        let mut buf = [0; DATAGRAM_LEN];
+        match recv_again(&self.socket, &mut buf) {
+            Ok((count, SocketAddr::V4(from))) => {
+                Receipt::got(addr_of(&from), Datagram::from_slice(&buf[..count]))
+            }
+            Err(error) if is_time_over(&error) => Receipt::Quiet,
+            _ => {
+                self.faults = self.faults.saturating_add(1);
+                Receipt::Failed
+            }
+        }
+    }
+}
+
+/// The address as the socket has it.
+fn socket_addr_of(to: Addr) -> SocketAddrV4
+    ensures port { v4_port result ≡ to.port }
+    ensures ip { IsIpv4OfBits (v4_ip result) to.ip }
+{
+    SocketAddrV4::new(Ipv4Addr::from_bits(to.ip), to.port)
+}
+
+/// The address that the socket gave.
+fn addr_of(from: &SocketAddrV4) -> Addr
+    ensures { result ≡ record { ip = ipv4_bits (v4_ip from.now); port = v4_port from.now } }
+{
+    Addr {
+        ip: from.ip().to_bits(),
+        port: from.port(),
+    }
+}
+
+/// The time of a receive is over, and nothing came.
+fn is_time_over(error: &io::Error) -> bool {
+    matches!(
+        error.kind(),
+        ErrorKind::WouldBlock | ErrorKind::TimedOut
+    )
+}
+
+/// Sends, and again as long as a signal cuts that short. It gives up after 2^64 - 1 of them.
+fn send_again(socket: &UdpSocket, bytes: &[u8], to: SocketAddrV4) -> io::Result<usize>
+    ensures no_signal { IfErr result (λ error. error_kind error ≢ ErrorKind.Interrupted) }
+{
+    for _ in 0..u64::MAX {
+        match socket.send_to(bytes, to) {
+            Err(error) if error.kind() == ErrorKind::Interrupted => {}
+            done => return done,
+        }
+    }
+    Err(io::Error::from(ErrorKind::Other))
+}
+
+/// Receives, and again as long as a signal cuts that short. It gives up after 2^64 - 1 of them.
+fn recv_again(socket: &UdpSocket, buf: &mut [u8]) -> io::Result<(usize, SocketAddr)>
+    ensures within { IfOk result (λ got. got.0 ≤ length buf.new) }
+    ensures no_signal { IfErr result (λ error. error_kind error ≢ ErrorKind.Interrupted) }
+{
+    for _ in 0..u64::MAX {
+        match socket.recv_from(buf) {
+            Err(error) if error.kind() == ErrorKind::Interrupted => {}
+            done => return done,
+        }
+    }
+    Err(io::Error::from(ErrorKind::Other))
+}
+
+#[cfg(test)]
+mod tests {
+    use super::*;
+    use std::test::Fail;
+
+    /// 127.0.0.1.
+    const LOCALHOST: u32 = 0x7F00_0001;
+
+    #[test]
+    fn datagrams_on_loopback(rt: HostRuntime) -> Result<(), Fail> {
+        let mut near = UdpLink::bind(&rt, 0)?;
+        let mut far = UdpLink::bind(&rt, 0)?;
+        assert!(rt; UdpLink::bind(&rt, far.port()?).is_err(), "the port is taken");
+        let ip = LOCALHOST;
+        let (from, to) = (near.port()?, far.port()?);
+        for sent in [b"".as_slice(), b"abc", &[7; 256], &[7; 300]] {
+            assert_eq!(rt; near.send(Addr { ip, port: to }, sent), Put::Done);
+        }
+        // A link sends 256 bytes at most, and its socket any number.
+        let addr = SocketAddrV4::new(Ipv4Addr::LOCALHOST, to);
+        assert_eq!(rt; near.socket.send_to(&[7; 300], addr)?, 300);
+        for len in [0, 3, 256, 256, 256] {
+            let Receipt::Got(sender, bytes) = far.recv() else {
+                assert!(rt; false, "nothing came");
+                return Ok(());
+            };
+            assert_eq!(rt; sender, Addr { ip, port: from });
+            assert_eq!(rt; bytes.as_slice().len(), len);
+        }
+        assert!(rt; matches!(far.recv(), Receipt::Quiet));
+        assert_eq!(rt; near.send(Addr { ip, port: 0 }, b"x"), Put::Failed);
+        assert_eq!(rt; (near.faults, far.faults), (1, 0));
+        Ok(())
+    }
+}
