@@ -18,7 +18,7 @@ use Rattle.dc_sign.specs.declared.tally.ServeWhy.{ServeWhy}
 use Rattle.dc_sign.specs.declared.tally.ServeWhy.TheVariants.{Done, ClockFault}
 use Rattle.dc_sign.specs.Counting.{counted}
 use Rattle.dc_sign.specs.Numbers.{numbers_of}
-use Rattle.dc_sign.specs.Serving.{BreaksOff, EndsBy, IsTurn, Seen, Serves, Takes, Turn, outcomes_of, readings_of, receipts_of, sends_of}
+use Rattle.dc_sign.specs.Serving.{StopsUnread, EndsBy, IsTurn, Seen, Serves, Takes, Turn, outcomes_of, readings_of, receipts_of, sends_of}
 use Rattle.dc_sign.specs.Turns.{HasServed, TakesOne, TakesTurn}
 use Rattle.dc_sign.proofs.Exchanges.{exchanged_more, exchanged_none}
 use Rattle.dc_sign.proofs.Numbering.{numbers_more}
@@ -90,7 +90,7 @@ served_all accounts turns count before now numbers served all =
     }
 
 pub broke_off : (accounts : List Account) (turns count : ℕ) (before mid now : Seen) (numbers : ServeEnd) → HasServed accounts count before mid numbers
-    → count < turns → BreaksOff mid now → Serves accounts turns before now (record numbers { why = ClockFault })
+    → count < turns → StopsUnread mid now → Serves accounts turns before now (record numbers { why = ClockFault })
 broke_off accounts turns count before mid now numbers served fewer breaks = record {
   taken = served.taken;
   behind = mid;

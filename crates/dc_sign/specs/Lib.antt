@@ -3,6 +3,7 @@ pub mod Asking
 pub mod Counting
 pub mod Info
 pub mod Numbers
+pub mod Readings
 pub mod Reply
 pub mod Sending
 pub mod Serving

@@ -41,7 +41,7 @@ is_refused reason (Refused given) = place_of given == place_of reason
 is_refused reason Quiet = false
 is_refused reason Lost = false
 
--- no datagram
+-- nothing came
 abbrev pub is_quiet : Outcome → Bool
 is_quiet (Signed put) = false
 is_quiet (Plain put) = false

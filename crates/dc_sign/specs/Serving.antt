@@ -113,7 +113,7 @@ pub record Takes (accounts : List Account) (turns : List Turn) (before now : See
   pub no_clock_fault : now.clock_faults ≡ before.clock_faults
 
 -- A datagram came, and the first or the second reading failed: nothing was sent for it.
-pub record BreaksOff (before now : Seen) : Type 0 where
+pub record StopsUnread (before now : Seen) : Type 0 where
   pub from : Addr
   pub request : List ℕ
   pub given : List ℤ
@@ -126,7 +126,7 @@ pub record BreaksOff (before now : Seen) : Type 0 where
 -- how a run ended, after so many turns of those asked for
 abbrev pub EndsBy : ServeWhy → ℕ → ℕ → Seen → Seen → Type 0
 EndsBy Done turns taken before now = (taken ≡ turns) × (now ≡ before)
-EndsBy ClockFault turns taken before now = (taken < turns) × BreaksOff before now
+EndsBy ClockFault turns taken before now = (taken < turns) × StopsUnread before now
 
 -- a run: its turns, and how it ended behind them; what is counted are the turns alone
 pub record Serves (accounts : List Account) (turns : ℕ) (before now : Seen) (result : ServeEnd) : Type 0 where

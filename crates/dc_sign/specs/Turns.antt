@@ -1,7 +1,7 @@
 -- What one turn does with link and clock.
-use Rattle.std.specs.Prelude.{◌≡◌, ◌+◌, ◌<◌, ℕ, ℤ, List, [], ◌∷◌, length, Option}
+use Rattle.std.specs.Prelude.{◌≡◌, ◌+◌, ℕ, List, [], ◌∷◌, length}
 use Rattle.base_specs.specs.Counts.{FailsTimes}
-use Rattle.edge_traits.specs.Clock.{ClockTold, GaveReadings}
+use Rattle.edge_traits.specs.Clock.{GaveReadings}
 use Rattle.edge_traits.specs.Link.{failed_receipts, failed_sends}
 use Rattle.key_book.specs.declared.account.Account.{Account}
 use Rattle.dc_sign.specs.declared.tally.Outcome.{Outcome}
@@ -23,12 +23,6 @@ pub record TakesOne (accounts : List Account) (before now : Seen) (outcome : Out
   pub turn : Turn
   pub is : turn.outcome ≡ outcome
   pub takes : TakesTurn accounts turn before now
-
--- fewer readings than the limit were given, and no move was made
-pub record GaveFewer (limit : ℕ) (old new : Option ClockTold) : Type 0 where
-  pub given : List ℤ
-  pub fewer : length given < limit
-  pub readings : GaveReadings old new given
 
 -- so many turns were taken, and they were counted
 pub record HasServed (accounts : List Account) (count : ℕ) (before now : Seen) (numbers : ServeEnd) : Type 0 where

@@ -37,7 +37,8 @@ impl ServerInfo {
         ensures local { IsLocalInfo t2 result }
 
         // A reading has one such information.
-        ensures only { (one other : ServerInfo) → IsLocalInfo t2 one → IsLocalInfo t2 other → one ≡ other }
+        ensures only { (one other : ServerInfo) → IsLocalInfo t2 one → IsLocalInfo t2 other
+            → one ≡ other }
     {
         ServerInfo {
             leap: 0,

@@ -17,12 +17,14 @@
 mod info;
 mod keys;
 mod outcome;
+mod readings;
 mod reply;
 mod run;
 mod tally;
 
 pub use info::ServerInfo;
 pub use outcome::{Answer, Refusal};
+pub use readings::two_readings;
 pub use reply::answer;
 pub use run::serve;
 pub use tally::{ServeEnd, ServeWhy};

@@ -59,7 +59,8 @@ pub fn answer<K: Keys>(keys: &K, info: &ServerInfo, bytes: &[u8], t2: i64, t3: i
 fn reply_header(asked: &Header, info: &ServerInfo, t2: i64, t3: i64) -> Header
     requires received { IsReading t2 }
     requires sent { IsReading t3 }
-    ensures header { (bytes : List ℕ) → IsHeaderAt bytes asked.now → IsReplyHeader info.now bytes t2 t3 result }
+    ensures header { (bytes : List ℕ) → IsHeaderAt bytes asked.now
+        → IsReplyHeader info.now bytes t2 t3 result }
     ensures fits { HeaderFits result }
 {
     let info = *info;

@@ -1,16 +1,14 @@
 //! Serving the requests that come over a link.
-ghost use Rattle.std.specs.Prelude.{◌≡◌, ◌≤◌, ◌<◌, ℕ, ℤ, List, [], ◌∷◌, length, Option, IfNone, IfSome, OnSome};
-ghost use Rattle.base_specs.specs.Counts.{Fails, Rose};
-ghost use Rattle.base_specs.specs.Time.{IsReading};
-ghost use Rattle.edge_traits.specs.Clock.{ClockTold, GaveReadings};
+ghost use Rattle.std.specs.Prelude.{◌≡◌, ◌≤◌, IfNone, IfSome};
+ghost use Rattle.base_specs.specs.Counts.{Rose};
 ghost use Rattle.dc_sign.specs.declared.tally.ServeWhy.{ServeWhy};
 ghost use Rattle.dc_sign.specs.Sending.{Sends};
-ghost use Rattle.dc_sign.specs.Serving.{BreaksOff, Serves, seen};
-ghost use Rattle.dc_sign.specs.Turns.{GaveFewer, TakesTurn, TakesOne};
+ghost use Rattle.dc_sign.specs.Serving.{Serves, StopsUnread, seen};
+ghost use Rattle.dc_sign.specs.Turns.{TakesOne};
 
 use crate::tally::Outcome;
-use crate::{Answer, ServeEnd, ServeWhy, ServerInfo, answer};
-use edge_traits::{Addr, Clock, Link, Reading, Receipt};
+use crate::{Answer, ServeEnd, ServeWhy, ServerInfo, answer, two_readings};
+use edge_traits::{Addr, Clock, Link, Receipt};
 use key_book::Keys;
 
 /// Serves so many turns. Each takes one receipt. For a datagram the clock is read twice, and the answer by the local
@@ -28,8 +26,10 @@ pub fn serve<L: Link, C: Clock, K: Keys>(
         (seen (L.told link.new) (L.faults link.new) (C.told clock.new) (C.faults clock.new)) result }
 
     // The clock's fault has its cause, and no other ends a run.
-    ensures cause { result.why ≡ ServeWhy.ClockFault → Rose (C.faults clock.old) (C.faults clock.new) }
-    ensures complete { ¬ Rose (C.faults clock.old) (C.faults clock.new) → result.why ≡ ServeWhy.Done }
+    ensures cause { result.why ≡ ServeWhy.ClockFault
+        → Rose (C.faults clock.old) (C.faults clock.new) }
+    ensures complete { ¬ Rose (C.faults clock.old) (C.faults clock.new)
+        → result.why ≡ ServeWhy.Done }
 
     // No count falls.
     ensures link_count { L.faults link.old ≤ L.faults link.new }
@@ -51,7 +51,7 @@ fn take_turn<L: Link, C: Clock, K: Keys>(link: &mut L, clock: &mut C, keys: &K) 
     ensures turn { IfSome result (TakesOne (K.accounts keys.now)
         (seen (L.told link.old) (L.faults link.old) (C.told clock.old) (C.faults clock.old))
         (seen (L.told link.new) (L.faults link.new) (C.told clock.new) (C.faults clock.new))) }
-    ensures broken_off { IfNone result (BreaksOff
+    ensures broken_off { IfNone result (StopsUnread
         (seen (L.told link.old) (L.faults link.old) (C.told clock.old) (C.faults clock.old))
         (seen (L.told link.new) (L.faults link.new) (C.told clock.new) (C.faults clock.new))) }
 {
@@ -67,28 +67,10 @@ fn take_turn<L: Link, C: Clock, K: Keys>(link: &mut L, clock: &mut C, keys: &K) 
     }
 }
 
-/// Reads the clock twice. None where a reading failed: then the clock isn't read again.
-fn two_readings<C: Clock>(clock: &mut C) -> Option<(i64, i64)>
-    ensures given { IfSome result (λ t. GaveReadings (C.told clock.old) (C.told clock.new) (t.0 ∷ t.1 ∷ [])) }
-    ensures first { IfSome result (λ t. IsReading t.0) }
-    ensures second { IfSome result (λ t. IsReading t.1) }
-    ensures no_fault { OnSome result (C.faults clock.new ≡ C.faults clock.old) }
-
-    ensures fewer { IfNone result (GaveFewer 2 (C.told clock.old) (C.told clock.new)) }
-    ensures cause { IfNone result (Fails (C.faults clock.old) (C.faults clock.new)) }
-{
-    let Reading::At(first) = clock.now() else {
-        return None;
-    };
-    let Reading::At(second) = clock.now() else {
-        return None;
-    };
-    Some((first, second))
-}
-
 /// Sends an answer, where it is a reply.
 fn send_answer<L: Link>(link: &mut L, to: Addr, answer: &Answer) -> Outcome
-    ensures { Sends to answer.now (L.told link.old) (L.told link.new) (L.faults link.old) (L.faults link.new) result }
+    ensures { Sends to answer.now (L.told link.old) (L.told link.new)
+        (L.faults link.old) (L.faults link.new) result }
 {
     match answer {
         Answer::Signed(reply) => Outcome::Signed(link.send(to, reply.as_slice())),

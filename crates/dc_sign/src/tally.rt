@@ -14,7 +14,7 @@ pub(crate) enum Outcome {
     Plain(Put),
     /// A refused request.
     Refused(Refusal),
-    /// No datagram.
+    /// Nothing came.
     Quiet,
     /// A failed receive.
     Lost,
@@ -38,7 +38,7 @@ pub struct ServeEnd {
     pub plain: u32,
     /// Refused requests, by the refusals in the order of [`Refusal`].
     pub refused: [u32; 5],
-    /// Receipts without a datagram.
+    /// Quiet receipts.
     pub quiet: u32,
     /// Failed receives.
     pub lost: u32,

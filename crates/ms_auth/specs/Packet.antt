@@ -43,7 +43,3 @@ IsPacketLength n = (n ≡ 48) ⊎ (n ≡ 68) ⊎ (n ≡ 120)
 
 abbrev pub IsTailLength : ℕ → Type 0
 IsTailLength n = (n ≡ 0) ⊎ (n ≡ 20) ⊎ (n ≡ 72)
-
-abbrev pub IsShort : Tail → Type 0
-IsShort (Short68 key_id sum) = ⊤
-IsShort other = ⊥

@@ -22,7 +22,7 @@ pub fn read_packet(bytes: &[u8]) -> Result<Packet, BadLength>
     ensures length { OnOk result (IsPacketLength (length bytes.now)) }
     ensures bad_length { IsErr result ↔ ¬ IsPacketLength (length bytes.now) }
 
-    // Each field of the message stands at its place in the bytes, and so does the checksum that it carries.
+    // The fields that a controller and a member look at stand at their places in the bytes, and so does the checksum.
     ensures places { IfOk result (λ p. IsPacketAt bytes.now p) }
 
     // Bytes spell one message, and what was written is read again.

@@ -20,9 +20,9 @@ const NO_STAMP: Stamp = Stamp {
     fraction: 0,
 };
 
-/// A request for the account with this RID, under its current key (MS-SNTP, client request). `poll` is the exponent of a
-/// power of 2 in seconds, and the timestamp is what the reply has to bring back. Both checksums of 0 are for the server to
-/// ignore: a request isn't signed.
+/// A request for the account with this RID, under its current key (MS-SNTP, client request). `poll` is the exponent
+/// of a power of 2 in seconds, and the timestamp is what the reply has to bring back. The checksum is zero bytes: a
+/// request isn't signed, and servers ignore what stands there.
 pub fn request(kind: Kind, rid: u32, poll: u8, stamp: Stamp) -> Packet
     requires rid { kind ≡ Kind.Short → rid < 2 ^ 31 }
     requires poll { poll ≤ 17 }

@@ -17,7 +17,7 @@ pub fn read_header(bytes: &[u8]) -> Result<Header, HeaderFault>
     ensures read { IfOk result (λ h. SpellsHeader h (take 48 bytes.now)) }
     ensures short { IsErr result ↔ (length bytes.now < 48) }
 
-    // Its fields stand at their places.
+    // The fields that a controller and a member look at stand at their places.
     ensures fields { IfOk result (λ h. IsHeaderAt bytes.now h) }
 
     // 48 bytes spell one header.

@@ -9,11 +9,13 @@ pub const HEADER_LEN: usize = 48;
 /// What a header says (RFC 1305, appendix A).
 #[derive(Clone, Copy, Debug, PartialEq, Eq)]
 pub struct Header {
-    /// Leap indicator: 0 to 2 announce how long the last minute of the day is, 3 says that the clock isn't synchronized.
+    /// Leap indicator: 0 to 2 announce how long the last minute of the day is, 3 says that the clock isn't
+    /// synchronized.
     pub leap: u8,
     /// Version of the protocol, 0 to 7.
     pub version: u8,
-    /// Mode: 1 symmetric active, 2 symmetric passive, 3 client, 4 server, 5 broadcast, 6 control, 7 private, 0 reserved.
+    /// Mode: 1 symmetric active, 2 symmetric passive, 3 client, 4 server, 5 broadcast, 6 control, 7 private,
+    /// 0 reserved.
     pub mode: u8,
     /// Stratum: 1 for a primary reference, one more for each server between, 0 where it isn't known.
     pub stratum: u8,

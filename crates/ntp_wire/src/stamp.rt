@@ -19,7 +19,8 @@ const HALF_ERA: u64 = ERA / 2;
 /// Seconds from 1 January 1601 to 1 January 1900.
 const WIRE_EPOCH: u64 = 9_435_484_800;
 
-/// A timestamp of the wire (RFC 1305, section 3.1): seconds since 1 January 1900 modulo 2^32, and a fraction of a second.
+/// A timestamp of the wire (RFC 1305, section 3.1): seconds since 1 January 1900 modulo 2^32, and a fraction of a
+/// second.
 #[derive(Clone, Copy, Debug, PartialEq, Eq)]
 pub struct Stamp {
     /// Whole seconds since 1 January 1900, modulo 2^32.
@@ -80,8 +81,8 @@ fn part_of(fraction: u32) -> u64
     u64::from(fraction) * SECOND / ERA_SECONDS
 }
 
-/// How far above the earliest moment in reach of `near`, which is half an era before it, the first one lies that differs
-/// from `base` by whole eras.
+/// How far above the earliest moment in reach of `near`, which is half an era before it, the first one lies that
+/// differs from `base` by whole eras.
 fn ahead_of(base: u64, near: u64) -> u64
     requires base { base < 2 ^ 60 }
     requires near { near ≤ 4000000000000000000 }

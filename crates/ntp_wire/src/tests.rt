@@ -146,3 +146,16 @@ fn headers_read_and_written(rt: HostRuntime) {
         assert_eq!(rt; read_header(&bytes[..47]), Err(HeaderFault::Short));
     }
 }
+
+// T1 is the first moment of 2020, and T4 is where the member is when the reply arrives.
+#[test]
+fn offset_and_delay(rt: HostRuntime) {
+    const T1: i64 = 132_223_104_000_000_000;
+    const T2: i64 = T1 + 30_000_000;
+    const T3: i64 = T2 + 10_000;
+    const T4: i64 = T1 + 2_010_000;
+    assert_eq!(rt; to_ticks(to_ntp(T2), T4), T2);
+    assert_eq!(rt; to_ticks(to_ntp(T3), T4), T3);
+    assert_eq!(rt; ((T2 - T1) + (T3 - T4)) / 2, 29_000_000);
+    assert_eq!(rt; (T4 - T1) - (T3 - T2), 2_000_000);
+}
