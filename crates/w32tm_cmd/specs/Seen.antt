@@ -1,8 +1,8 @@
 -- What the devices tell at a moment, and what a run did with each of them.
-use Rattle.std.specs.Prelude.{◌≡◌, ◌<◌, ◌≤◌, ℕ, ℤ, List, length, Option}
+use Rattle.std.specs.Prelude.{◌≡◌, ◌<◌, ◌≤◌, ℕ, List, length, Option}
 use Rattle.base_specs.specs.Counts.{Rose}
 use Rattle.base_specs.specs.Told.{Took, IsUsedUp}
-use Rattle.edge_traits.specs.Clock.{ClockTold, GaveReadings}
+use Rattle.edge_traits.specs.Clock.{ClockTold}
 
 -- the bytes left on the input, the bytes written, the readings and moves of the clock, and the counts of failed calls
 pub record Seen : Type 0 where
@@ -29,12 +29,6 @@ pub record IsOutIdle (before now : Seen) : Type 0 where
 pub record IsClockIdle (before now : Seen) : Type 0 where
   pub told : now.clock ≡ before.clock
   pub no_fault : now.clock_faults ≡ before.clock_faults
-
--- fewer readings than the limit were given, and no move was made
-pub record GaveFewer (limit : ℕ) (old new : Option ClockTold) : Type 0 where
-  pub given : List ℤ
-  pub fewer : length given < limit
-  pub readings : GaveReadings old new given
 
 -- no call failed
 pub record HasNoFault (before now : Seen) : Type 0 where

@@ -6,11 +6,12 @@ use Rattle.edge_traits.specs.Clock.{GaveReadings}
 use Rattle.key_book.specs.declared.account.Account.{Account}
 use Rattle.dc_sign.specs.declared.outcome.Refusal.{Refusal}
 use Rattle.dc_sign.specs.declared.info.ServerInfo.{ServerInfo}
+use Rattle.dc_sign.specs.Readings.{GaveFewer}
 use Rattle.dc_sign.specs.Reply.{refusal_of, IsReplyOf}
 use Rattle.dc_sign.specs.Info.{IsLocalInfo}
 use Rattle.w32tm_text.specs.declared.status.Status.{Status}
 use Rattle.w32tm_text.specs.declared.status.Status.TheVariants.{Done, BadWords, ReadFault, WriteFault, ClockFault, BadRequest}
-use Rattle.w32tm_cmd.specs.Seen.{Seen, ReadsInput, IsOutIdle, IsClockIdle, GaveFewer}
+use Rattle.w32tm_cmd.specs.Seen.{Seen, ReadsInput, IsOutIdle, IsClockIdle}
 
 -- the most bytes that are read of a request, one more than a datagram holds
 abbrev pub request_limit : ℕ

@@ -16,7 +16,6 @@
 #![tactic(auto)]
 
 mod outside;
-mod readings;
 mod run;
 mod show;
 mod sign;

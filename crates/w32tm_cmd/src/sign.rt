@@ -4,9 +4,8 @@ ghost use Rattle.dc_sign.specs.declared.outcome.Refusal.{Refusal};
 ghost use Rattle.w32tm_cmd.specs.Sign.{Signs};
 ghost use Rattle.w32tm_text.specs.declared.status.Status.TheVariants.{BadRequest};
 
-use crate::readings::two_readings;
 use crate::{Outside, Status, Tells};
-use dc_sign::{Answer, ServerInfo, answer};
+use dc_sign::{Answer, ServerInfo, answer, two_readings};
 use edge_io::{Clock, DATAGRAM_LEN, Filled, Put, Sink, Source, fill_front};
 use key_book::Account;
 

@@ -138,18 +138,25 @@ fn signs_the_sample_request(rt: HostRuntime) -> Result<(), Fail> {
 /// sample's header in the reply.
 type Answered = (&'static str, &'static [u8], usize, &'static [u8]);
 
-// A header alone; the previous key, twice; and extended requests, under the current and the previous key and of the
-// greatest RID. The checksums of the short ones are those of `REPLY`, under the key of zeros. Those of the extended ones
-// are OpenSSL's: `echo HEADER | xxd -r -p | openssl dgst -sha512 -mac HMAC -macopt hexkey:DERIVED`, where DERIVED is what
+// A header alone; the previous key, three times; and extended requests, under the current and the previous key and of
+// the greatest RID. The checksums of the short ones are the MD5 of key and header: those of `REPLY` under the key of
+// zeros, and under the key 11..11 what `echo KEY HEADER | xxd -r -p | openssl md5` gives. Those of the extended ones are
+// OpenSSL's: `echo HEADER | xxd -r -p | openssl dgst -sha512 -mac HMAC -macopt hexkey:DERIVED`, where DERIVED is what
 // `openssl kdf -keylen 64 -kdfopt mac:HMAC -kdfopt digest:SHA512 -kdfopt mode:counter -kdfopt hexkey:KEY -kdfopt
 // hexsalt:736e74702d6d73 -kdfopt hexinfo:RID KBKDF` prints, without its colons.
-const ANSWERED: [Answered; 6] = [
+const ANSWERED: [Answered; 7] = [
     ("/sign:1103:00000000000000000000000000000000", b"", 0, b""),
     (
         "/sign:1103:a5a5a5a5a5a5a5a5a5a5a5a5a5a5a5a5:00000000000000000000000000000000",
         b"\x4F\x04\x00\x80",
         16,
         b"\x4F\x04\x00\x80\xA1\xED\x97\xBF\x99\x6D\x9C\xD9\x4E\x95\xA2\xAE\x0F\x55\x9A\x86",
+    ),
+    (
+        "/sign:1103:00000000000000000000000000000000:11111111111111111111111111111111",
+        b"\x4F\x04\x00\x80",
+        16,
+        b"\x4F\x04\x00\x80\xC4\xD5\x60\x15\x42\xB3\x48\x39\xA4\xE3\x30\x30\x83\x09\x09\xE1",
     ),
     (
         "/sign:2147483647:a5a5a5a5a5a5a5a5a5a5a5a5a5a5a5a5:00000000000000000000000000000000",
@@ -159,7 +166,7 @@ const ANSWERED: [Answered; 6] = [
     ),
     (
         "/sign:1103:00000000000000000000000000000000",
-        b"\x4F\x04\x00\x00\xFF\xFE\x00\x77",
+        b"\x4F\x04\x00\x00\x00\x00\x01\x00",
         64,
         b"\x4F\x04\x00\x00\x00\x00\x01\x01\x80\xE9\x3B\x24\x1F\xE2\x60\xF7\xE0\x58\xFC\xFE\
           \x8B\x0F\xE9\xBE\x27\x7C\xAE\xE4\xB5\xC6\xFE\xE0\xC0\x2F\xA5\x42\x06\xEE\x02\x27\
@@ -219,6 +226,16 @@ fn refusals_of_the_controller(rt: HostRuntime) -> Result<(), Fail> {
         assert_eq!(rt; ran.status, Status::BadRequest { reason });
         assert!(rt; ran.written.is_empty());
     }
+    // An extended request for the previous key, which the account doesn't have.
+    let mut request = REQUEST[..48].to_vec(alloc)?;
+    request.extend_from_slice(b"\x4F\x04\x00\x00\x00\x01\x01\x00")?;
+    for _ in 0..64 {
+        request.push(0)?;
+    }
+    let ran = run(alloc, &[WORD], request.as_slice(), &STEADY)?;
+    let reason = Refusal::NoOldKey;
+    assert_eq!(rt; ran.status, Status::BadRequest { reason });
+    assert!(rt; ran.written.is_empty());
     for (len, left) in [(0, 0), (67, 0), (69, 0), (72, 0), (257, 0), (300, 43)] {
         let request = vec![in alloc; 0xDB; len]?;
         let ran = run(alloc, &[WORD], &request, &STEADY)?;
