@@ -5,6 +5,7 @@ use Rattle.ntp_wire.specs.Header.{header_bytes}
 use Rattle.ms_auth.specs.declared.packet.Packet.{Packet}
 use Rattle.ms_auth.specs.declared.packet.Tail.{Tail}
 use Rattle.ms_auth.specs.declared.packet.Tail.TheVariants.{Plain, Short68, Ext120}
+use Rattle.ms_auth.specs.Packet.{packet_bytes}
 
 -- the checksum of a header with this tail: MD5 of key and header for a short one, HMAC under the key derived for the
 -- tail's own RID for an extended one, and none for a plain one
@@ -39,3 +40,9 @@ IsSignedTail digest (Ext120 rid reserved flags hints hash old) now = (sum : List
 pub record IsSigned (key : List ℕ) (p now : Packet) : Type 0 where
   pub header : now.header ≡ p.header
   pub tail : IsSignedTail (digest_of p key) p.tail now.tail
+
+-- bytes that spell the message with its checksum under the key
+pub record SpellsSigned (key : List ℕ) (p : Packet) (bytes : List ℕ) : Type 0 where
+  pub signed : Packet
+  pub is_signed : IsSigned key p signed
+  pub written : bytes ≡ packet_bytes signed
