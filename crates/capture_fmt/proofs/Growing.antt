@@ -11,22 +11,22 @@ use Rattle.capture_fmt.specs.Record as layout
 use Rattle.capture_fmt.specs.Record.{Field, field_number, field_len, field_flaw, first_flaw, flaw_behind, record_flaw, fields_of}
 
 -- How a field stands in the bytes: its number isn't whole, it may not stand there, the bytes behind it aren't whole, or all is in order.
-data Stands (f : Field) (bytes : List ℕ) : Type 0 where
-  cut : length bytes < f.size → field_flaw f bytes ≡ Some Torn → Stands f bytes
-  wrong : f.size ≤ length bytes → f.may_be (field_number f bytes) ≡ false → field_flaw f bytes ≡ Some f.flaw → Stands f bytes
-  short : f.size ≤ length bytes → f.may_be (field_number f bytes) ≡ true → length bytes < field_len f bytes → field_flaw f bytes ≡ Some Torn → Stands f bytes
-  whole : f.size ≤ length bytes → f.may_be (field_number f bytes) ≡ true → field_len f bytes ≤ length bytes → field_flaw f bytes ≡ None → Stands f bytes
+pub data Stands (f : Field) (bytes : List ℕ) : Type 0 where
+  is_cut : length bytes < f.size → field_flaw f bytes ≡ Some Torn → Stands f bytes
+  is_wrong : f.size ≤ length bytes → f.may_be (field_number f bytes) ≡ false → field_flaw f bytes ≡ Some f.flaw → Stands f bytes
+  is_short : f.size ≤ length bytes → f.may_be (field_number f bytes) ≡ true → length bytes < field_len f bytes → field_flaw f bytes ≡ Some Torn → Stands f bytes
+  is_whole : f.size ≤ length bytes → f.may_be (field_number f bytes) ≡ true → field_len f bytes ≤ length bytes → field_flaw f bytes ≡ None → Stands f bytes
 
-stands : (f : Field) (bytes : List ℕ) → Stands f bytes
+pub stands : (f : Field) (bytes : List ℕ) → Stands f bytes
 unfolding field_flaw
 stands f bytes =
     elim (cases_Bool (nat_lt (length bytes) f.size)) [
-      | inl less ↦ cut (ltb-true _ _ less) (cond-true _ _ _ less)
+      | inl less ↦ is_cut (ltb-true _ _ less) (cond-true _ _ _ less)
       | inr many ↦ elim (cases_Bool (f.may_be (field_number f bytes))) [
-        | inr bad ↦ wrong (ltb-false _ _ many) bad (cond-false _ _ _ many ∙ cond-false _ _ _ bad)
+        | inr bad ↦ is_wrong (ltb-false _ _ many) bad (cond-false _ _ _ many ∙ cond-false _ _ _ bad)
         | inl good ↦ elim (cases_Bool (nat_lt (length bytes) (field_len f bytes))) [
-          | inl few ↦ short (ltb-false _ _ many) good (ltb-true _ _ few) (cond-false _ _ _ many ∙ cond-true _ _ _ good ∙ cond-true _ _ _ few)
-          | inr enough ↦ whole (ltb-false _ _ many) good (ltb-false _ _ enough) (cond-false _ _ _ many ∙ cond-true _ _ _ good ∙ cond-false _ _ _ enough)
+          | inl few ↦ is_short (ltb-false _ _ many) good (ltb-true _ _ few) (cond-false _ _ _ many ∙ cond-true _ _ _ good ∙ cond-true _ _ _ few)
+          | inr enough ↦ is_whole (ltb-false _ _ many) good (ltb-false _ _ enough) (cond-false _ _ _ many ∙ cond-true _ _ _ good ∙ cond-false _ _ _ enough)
         ]
       ]
     ]
@@ -61,18 +61,18 @@ rest_stays f bytes more enough fits =
     ap (λ (n : ℕ). drop n (bytes ++ more)) (len_stays f bytes more enough) ∙ drop-append-le (field_len f bytes) bytes more fits
 
 -- the flaw of the first field, or of those behind it
-first_of : (f : Field) (fields : List Field) (bytes : List ℕ) (o : Option Flaw) → field_flaw f bytes ≡ o → first_flaw (f ∷ fields) bytes ≡ option_or o (first_flaw fields (drop (field_len f bytes) bytes))
+pub first_of : (f : Field) (fields : List Field) (bytes : List ℕ) (o : Option Flaw) → field_flaw f bytes ≡ o → first_flaw (f ∷ fields) bytes ≡ option_or o (first_flaw fields (drop (field_len f bytes) bytes))
 first_of f fields bytes o is = ap (λ (p : Option Flaw). option_or p (first_flaw fields (drop (field_len f bytes) bytes))) is
 
 first_flaw_stays : (fields : List Field) (bytes more : List ℕ) (flaw : Flaw) → (flaw ≡ Torn → ⊥) → first_flaw fields bytes ≡ Some flaw → first_flaw fields (bytes ++ more) ≡ Some flaw
 first_flaw_stays [] bytes more flaw not_torn is = cc
 first_flaw_stays (f ∷ fields) bytes more flaw not_torn is =
     elim (stands f bytes) [
-      | cut few flawed ↦ absurd (not_torn (cc (first_of f fields bytes (Some Torn) flawed, is)))
-      | short enough good few flawed ↦ absurd (not_torn (cc (first_of f fields bytes (Some Torn) flawed, is)))
-      | wrong enough bad flawed ↦
+      | is_cut few flawed ↦ absurd (not_torn (cc (first_of f fields bytes (Some Torn) flawed, is)))
+      | is_short enough good few flawed ↦ absurd (not_torn (cc (first_of f fields bytes (Some Torn) flawed, is)))
+      | is_wrong enough bad flawed ↦
           first_of f fields (bytes ++ more) (Some f.flaw) (wrong_stays f bytes more enough bad) ∙ sym (first_of f fields bytes (Some f.flaw) flawed) ∙ is
-      | whole enough good fits none ↦
+      | is_whole enough good fits none ↦
           first_of f fields (bytes ++ more) None (whole_stays f bytes more enough good fits)
           ∙ ap (first_flaw fields) (rest_stays f bytes more enough fits)
           ∙ first_flaw_stays fields (drop (field_len f bytes) bytes) more flaw not_torn (sym (first_of f fields bytes None none) ∙ is)
@@ -103,10 +103,10 @@ unfolding field_len
 first_flaw_short [] most bytes bounded is = cc
 first_flaw_short (f ∷ fields) most bytes (one_more {m = m} {n = n} bound rest) is =
     elim (stands f bytes) [
-      | cut few flawed ↦ let size : f.size ≤ m = bound.size in omega arith
-      | short enough good few flawed ↦ let size : f.size + f.behind (field_number f bytes) ≤ m = bound.behind (field_number f bytes) good in omega arith
-      | wrong enough bad flawed ↦ absurd (bound.flaw (field_number f bytes) bad (cc (first_of f fields bytes (Some f.flaw) flawed, is)))
-      | whole enough good fits none ↦
+      | is_cut few flawed ↦ let size : f.size ≤ m = bound.size in omega arith
+      | is_short enough good few flawed ↦ let size : f.size + f.behind (field_number f bytes) ≤ m = bound.behind (field_number f bytes) good in omega arith
+      | is_wrong enough bad flawed ↦ absurd (bound.flaw (field_number f bytes) bad (cc (first_of f fields bytes (Some f.flaw) flawed, is)))
+      | is_whole enough good fits none ↦
           let size : f.size + f.behind (field_number f bytes) ≤ m = bound.behind (field_number f bytes) good in
           let short = first_flaw_short fields n (drop (field_len f bytes) bytes) rest (sym (first_of f fields bytes None none) ∙ is) in
           omega (arith, short, length-drop (field_len f bytes) bytes)

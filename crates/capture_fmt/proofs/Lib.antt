@@ -5,3 +5,4 @@ mod Reading
 mod Runs
 pub mod OneRecord
 pub mod Histories
+pub mod Whole

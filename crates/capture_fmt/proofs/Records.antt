@@ -1,18 +1,18 @@
 -- Records that are read again, field by field.
 use Rattle.std.proofs.Common.{◌≡◌, ℕ, ℤ, pos, negsuc, ◌<◌, ◌≤◌, ◌^◌, true, List, [], ◌∷◌, ◌++◌, length, take, drop, Some, refl, sym, ◌∙◌, ap, arith, lit<, unsigned_abs}
 use Rattle.std.specs.Prelude.{nat_le}
-use Rattle.std.proofs.lemmas.Bool.{le-leb}
+use Rattle.std.proofs.lemmas.Bool.{ne_eqb, le-leb, lt-leb}
 use Rattle.std.proofs.lemmas.Int.{ints}
 use Rattle.std.proofs.lemmas.List.{append_assoc, length-take-le, take_all, take-append-drop}
 use Rattle.base_specs.specs.Time.{IsReading}
 use Rattle.edge_traits.specs.declared.datagram.Addr.{Addr}
 use Rattle.capture_fmt.specs.declared.event.Event.TheVariants.{Life, Tick, Resync, Arrive}
 use Rattle.capture_fmt.specs.declared.fault.Flaw.{Flaw}
-use Rattle.capture_fmt.specs.declared.fault.Flaw.TheVariants.{Torn}
+use Rattle.capture_fmt.specs.declared.fault.Flaw.TheVariants.{BadKind, BadReading, BadLength, Torn}
 use Rattle.byte_codec.specs.Numbers.{number_bytes}
 use Rattle.capture_fmt.specs.Record as layout
 use Rattle.capture_fmt.specs.Record.{Field, event_bytes, field_flaw, first_flaw}
-use Rattle.capture_fmt.proofs.Fields.{first_behind, no_number}
+use Rattle.capture_fmt.proofs.Fields.{first_behind, no_number, wrong_number, fewer_bytes}
 
 -- a moment as the number in its field
 pub reading_within : (now : ℤ) → IsReading now → (unsigned_abs now < 2 ^ 64) × (nat_le (unsigned_abs now) 4000000000000000000 ≡ true)
@@ -51,6 +51,24 @@ past_datagram fields bytes part more most written =
 -- a field whose number isn't whole
 pub cut_number : (f : Field) (bytes : List ℕ) (flaw : Flaw) → (flaw ≡ Torn) × (length bytes < f.size) → field_flaw f bytes ≡ Some flaw
 cut_number f bytes flaw h = no_number f bytes h.1 ∙ ap Some (sym h.0)
+
+-- what may not stand in its field
+pub other_magic : (n : ℕ) (bytes rest : List ℕ) → bytes ≡ number_bytes 4 n ++ rest → n < 2 ^ 32 → (n ≡ layout.magic_number → ⊥) → field_flaw layout.magic bytes ≡ Some BadKind
+other_magic n bytes rest written below other =
+    wrong_number layout.magic n bytes rest (record { within = below; written = written }) (ne_eqb n layout.magic_number other)
+
+pub late_reading : (n : ℕ) (bytes rest : List ℕ) → bytes ≡ number_bytes 8 n ++ rest → n < 2 ^ 64 → 4000000000000000000 < n → field_flaw layout.reading bytes ≡ Some BadReading
+late_reading n bytes rest written below late =
+    wrong_number layout.reading n bytes rest (record { within = below; written = written }) (lt-leb n 4000000000000000000 late)
+
+pub long_datagram : (n : ℕ) (bytes rest : List ℕ) → bytes ≡ number_bytes 2 n ++ rest → n < 2 ^ 16 → 256 < n → field_flaw layout.datagram bytes ≡ Some BadLength
+long_datagram n bytes rest written below long =
+    wrong_number layout.datagram n bytes rest (record { within = below; written = written }) (lt-leb n 256 long)
+
+-- a datagram of which bytes are missing
+pub cut_datagram : (n : ℕ) (bytes rest : List ℕ) → bytes ≡ number_bytes 2 n ++ rest → n < 2 ^ 16 → n ≤ 256 → length rest < n → field_flaw layout.datagram bytes ≡ Some Torn
+cut_datagram n bytes rest written below most few =
+    fewer_bytes layout.datagram n bytes rest (record { within = below; written = written }) (le-leb n 256 most) few
 
 -- a datagram behind its number
 pub read_datagram :

@@ -107,7 +107,7 @@ field_len f bytes = f.size + f.behind (field_number f bytes)
 -- what is wrong with that field: it is incomplete, or another number stands in it than may
 unfoldable pub field_flaw : Field → List ℕ → Option Flaw
 field_flaw f bytes =
-    if nat_lt (length bytes) (f.size) then Some Torn else
+    if nat_lt (length bytes) f.size then Some Torn else
     (if f.may_be (field_number f bytes)
     then (if nat_lt (length bytes) (field_len f bytes) then Some Torn else None)
     else Some f.flaw)
@@ -122,7 +122,7 @@ abbrev pub flaw_behind : Option (List Field) → List ℕ → Option Flaw
 flaw_behind None bytes = Some BadKind
 flaw_behind (Some fields) bytes = first_flaw fields bytes
 
--- what is wrong with the record that these bytes begin with
+-- what is wrong with the record that these bytes begin with: nothing, where it is whole
 unfoldable pub record_flaw : List ℕ → Option Flaw
 record_flaw [] = Some Torn
 record_flaw (kind ∷ bytes) = flaw_behind (fields_of kind) bytes

@@ -76,6 +76,7 @@ fn arrive_at(bytes: &[u8]) -> Result<(Event, &[u8]), Flaw>
 }
 
 /// Takes the letters `W32T`.
+#[tactic(auto, using(crate::proofs::Records::cut_number, crate::proofs::Records::other_magic))]
 fn magic_at(bytes: &[u8]) -> Result<&[u8], Flaw>
     ensures found { IfOk result (λ rest. bytes.now ≡ word_bytes layout.magic_number ++ rest.now) }
     ensures flaw { IfErr result (λ flaw. field_flaw layout.magic bytes.now ≡ Some flaw) }
@@ -88,6 +89,7 @@ fn magic_at(bytes: &[u8]) -> Result<&[u8], Flaw>
 }
 
 /// Takes a moment.
+#[tactic(auto, using(crate::proofs::Records::cut_number, crate::proofs::Records::late_reading))]
 fn reading_at(bytes: &[u8]) -> Result<(i64, &[u8]), Flaw>
     ensures found { IfOk result (λ read. IsReading read.0
         × (bytes.now ≡ double_word_bytes (unsigned_abs read.0) ++ read.1.now)) }
@@ -101,6 +103,7 @@ fn reading_at(bytes: &[u8]) -> Result<(i64, &[u8]), Flaw>
 }
 
 /// Takes a datagram, with the number of its bytes before it.
+#[tactic(auto, using(crate::proofs::Records::cut_number, crate::proofs::Records::long_datagram, crate::proofs::Records::cut_datagram))]
 fn datagram_at(bytes: &[u8]) -> Result<(Datagram, &[u8]), Flaw>
     ensures found { IfOk result (λ read. (length read.0 ≤ 256)
         × (bytes.now ≡ half_word_bytes (length read.0) ++ (read.0 ++ read.1.now))) }

@@ -4,7 +4,7 @@ ghost use Rattle.std.specs.Prelude.{◌≡◌};
 /// Why a capture can't be read on. The number is the place at which the record begins, in bytes from the front.
 #[derive(Clone, Copy, Debug, PartialEq, Eq)]
 pub enum CaptureFault {
-    /// There is no such kind of record, or a record that begins a run lacks the letters `W32T`.
+    /// There is no such kind of record, or the four bytes after 01 are there and aren't `W32T`.
     BadKind(u64),
     /// The moment is above 4,000,000,000,000,000,000.
     BadReading(u64),

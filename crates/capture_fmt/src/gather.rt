@@ -1,5 +1,4 @@
 //! Gathering the bytes of the next record.
-ghost use Rattle.base_specs.specs.Told.{Took};
 ghost use Rattle.capture_fmt.specs.Gather.{Gains, GatherCounts, Sees};
 
 use crate::Event;
@@ -31,6 +30,7 @@ pub(crate) fn gather<S: Source>(source: &mut S, held: &mut ArrayVec<u8, RECORD_L
     loop {
         match event_at(held.as_slice()) {
             Ok((event, rest)) => return Gathered::Event(event, held.len() - rest.len()),
+            // The bytes that come next may complete it.
             Err(Flaw::Torn) => {}
             Err(flaw) => return Gathered::Flawed(flaw),
         }

@@ -1,8 +1,9 @@
 //! A run's events as bytes, so that the run can be judged again later.
 //!
-//! A capture is the records of its events, joined, without a header: two captures, joined, are a capture. `write_event`
-//! adds the record of one event to a sink, and `EventReader` takes the bytes of a source, however the source cuts them, and
-//! gives the events one by one or names the first fault and its place. No memory is taken.
+//! A capture, a format of this project's own, is the records of its events, joined, without a header: two captures, joined,
+//! are a capture. Numbers are most significant byte first. `write_event` adds the record of one event to a sink, and
+//! `EventReader` takes the bytes of a source, however the source cuts them, and gives the events one by one or names the
+//! first fault and its place. No memory is taken.
 //!
 //! It stands on the device traits (`edge_traits`) and on the parts that codecs share (`byte_codec`). The layer above may
 //! rely on the clauses of these calls, of which `run` speaks of all that a reader has read so far, and on the laws of

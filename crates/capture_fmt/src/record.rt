@@ -1,12 +1,15 @@
 //! How a record is laid out.
 
-/// The kind of a record: its first byte.
+/// The kind of a record that begins a run. A record's first byte is its kind.
 pub(crate) const LIFE: u8 = 1;
 
+/// The kind of a turn.
 pub(crate) const TICK: u8 = 2;
 
+/// The kind of a request that was asked for.
 pub(crate) const RESYNC: u8 = 3;
 
+/// The kind of a datagram that came.
 pub(crate) const ARRIVE: u8 = 4;
 
 /// What stands behind the kind where a run begins: the letters `W32T`.
