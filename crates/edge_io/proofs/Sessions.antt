@@ -1,17 +1,12 @@
 -- What a wire in memory tells of its sessions.
-use Rattle.std.proofs.Common.{◌≡◌, ℕ, ◌+◌, ◌≤◌, Bool, true, false, if◌then◌else◌, List, [], ◌∷◌, ◌++◌, length, nat_lt, Option, Some, None, refl, subst, sym, ap, ◌∙◌, arith, append_assoc}
+use Rattle.std.proofs.Common.{◌≡◌, ℕ, ◌+◌, true, false, if◌then◌else◌, List, [], ◌∷◌, ◌++◌, length, nat_lt, Option, Some, None, refl, subst, sym, ap, ◌∙◌, arith}
 use Rattle.std.proofs.lemmas.List.{append-nil}
-use Rattle.std.specs.Option.{is_some, option_map, option_to_list}
-use Rattle.base_specs.specs.Told.{Grew, LastTold}
-use Rattle.edge_traits.specs.declared.sink.Put.{Put}
-use Rattle.edge_traits.specs.declared.sink.Put.TheVariants as write
-use Rattle.edge_traits.specs.declared.source.Take.{Take}
-use Rattle.edge_traits.specs.declared.source.Take.TheVariants as read
+use Rattle.std.specs.Option.{option_map, option_to_list}
 use Rattle.edge_traits.specs.declared.wire.Opened.{Opened}
 use Rattle.edge_traits.specs.declared.wire.Opened.TheVariants as opened
-use Rattle.edge_traits.specs.Wire.{fresh, is_session, Entry, FailsToTake, FailsToWrite, Opens, Session, NoMore, Failed, SessionChanged, SessionTold, TakesOf, WireReads, WireWrites, WritesTo}
-use Rattle.edge_io.specs.SessionScript.{session_read, session_written, IsFresh, ReadsSession, SessionScript}
-use Rattle.edge_io.specs.WireScript.{entries_of, open_answer, open_entry, opened_in, closed_up, told_as, told_of, with_answer, with_room, IsCounted, WireScript}
+use Rattle.edge_traits.specs.Wire.{fresh, is_session, Entry, Opens, Session, NoMore, Failed, SessionTold}
+use Rattle.edge_io.specs.SessionScript.{IsFresh, SessionScript}
+use Rattle.edge_io.specs.WireScript.{entries_of, open_answer, opened_in, closed_up, told_as, told_of, with_answer, with_room, IsCounted, WireScript}
 
 -- one more answer, and what it opened
 pub opened_in-session : (answers : List Opened) → opened_in (answers ++ opened.Session ∷ []) ≡ opened_in answers + 1

@@ -1,5 +1,5 @@
 -- What a source in memory will do.
-use Rattle.std.specs.Prelude.{ℕ, ◌-◌, ◌==◌, min, if◌then◌else◌, List, [], ◌∷◌, ◌++◌, length, take, drop, nat_le}
+use Rattle.std.specs.Prelude.{ℕ, ◌==◌, min, if◌then◌else◌, List, ◌++◌, length, take, drop}
 use Rattle.edge_traits.specs.declared.source.Take.{Take}
 use Rattle.edge_traits.specs.declared.source.Take.TheVariants as read
 use Rattle.base_specs.specs.Counts.{next_count}

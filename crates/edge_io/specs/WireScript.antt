@@ -1,6 +1,6 @@
 -- What a wire in memory will do.
-use Rattle.std.specs.Prelude.{◌≡◌, ℕ, ◌+◌, ◌||◌, Bool, if◌then◌else◌, List, [], ◌∷◌, ◌++◌, IfSome, length, map, drop, nat_lt, Option, Some, None}
-use Rattle.std.specs.Option.{is_some, option_map, option_to_list}
+use Rattle.std.specs.Prelude.{◌≡◌, ℕ, ◌+◌, ◌||◌, if◌then◌else◌, List, [], ◌∷◌, ◌++◌, IfSome, length, drop, nat_lt, Option, Some, None}
+use Rattle.std.specs.Option.{option_map, option_to_list}
 use Rattle.base_specs.specs.Counts.{next_count}
 use Rattle.edge_traits.specs.declared.sink.Put.{Put}
 use Rattle.edge_traits.specs.declared.sink.Put.TheVariants as write

@@ -9,8 +9,9 @@
 //! and leaves nothing open. A call that fails uses nothing up. The memory of the lists is taken when the object is
 //! made.
 //!
-//! An adapter (`ReaderSource`, `WriterSink`, `RealClock`) tells nothing, and says what it makes of what the reader,
-//! the writer or the machine's clock gave. What these give is trusted. `NullSink` takes all and keeps nothing.
+//! An adapter (`ReaderSource`, `WriterSink`, `RealClock`, `UdpLink`, `RandomFile`) tells nothing, and says what it
+//! makes of what the reader, the writer or the machine's clock gave. What these give is trusted, and what a socket
+//! gives and takes. `file_source` and `random_file` open files. `NullSink` takes all and keeps nothing.
 //!
 //! The definitions stand in `specs/`: a file of its own for each object, `Calls`, `Pieces` and `SessionScript` for
 //! their parts, `Held`, `CorrectedClock` and `Correction` for the adapters. Those of the traits are handed on.

@@ -373,7 +373,15 @@ fn wires_open_their_sessions(rt: HostRuntime) -> Result<(), Fail> {
             ],
             &["1"],
         ),
-        (&[2], &[Step::Open(Opened::Session), Step::Open(Opened::Failed), Step::Read(".")], &[""]),
+        (
+            &[2],
+            &[
+                Step::Open(Opened::Session),
+                Step::Open(Opened::Failed),
+                Step::Read("."),
+            ],
+            &[""],
+        ),
     ];
     for (fails, steps, written) in rows {
         let mut wire = ScriptWire::new(alloc, two_sessions(alloc)?, fails.to_vec(alloc)?, 4)?;
@@ -382,7 +390,10 @@ fn wires_open_their_sessions(rt: HostRuntime) -> Result<(), Fail> {
         }
         assert_eq!(rt; wire.opened(), written.len());
         for session in 0..wire.opened() {
-            assert_eq!(rt; Some(wire.written(session)), written.get(session).map(|text| text.as_bytes()));
+            assert_eq!(rt;
+                Some(wire.written(session)),
+                written.get(session).map(|text| text.as_bytes())
+            );
         }
     }
     Ok(())

@@ -102,10 +102,7 @@ fn addr_of(from: &SocketAddrV4) -> Addr
 
 /// The time of a receive is over, and nothing came.
 fn is_time_over(error: &io::Error) -> bool {
-    matches!(
-        error.kind(),
-        ErrorKind::WouldBlock | ErrorKind::TimedOut
-    )
+    matches!(error.kind(), ErrorKind::WouldBlock | ErrorKind::TimedOut)
 }
 
 /// Sends, and again as long as a signal cuts that short. It gives up after 2^64 - 1 of them.
@@ -147,7 +144,10 @@ mod tests {
     fn datagrams_on_loopback(rt: HostRuntime) -> Result<(), Fail> {
         let mut near = UdpLink::bind(&rt, 0)?;
         let mut far = UdpLink::bind(&rt, 0)?;
-        assert!(rt; UdpLink::bind(&rt, far.port()?).is_err(), "the port is taken");
+        assert!(rt;
+            UdpLink::bind(&rt, far.port()?).is_err(),
+            "the port is taken"
+        );
         let ip = LOCALHOST;
         let (from, to) = (near.port()?, far.port()?);
         for sent in [b"".as_slice(), b"abc", &[7; 256], &[7; 300]] {

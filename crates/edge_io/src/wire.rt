@@ -87,7 +87,7 @@ impl ScriptWire {
             sessions.items }
         ensures script { IfOk result (λ w. w ≡ record {
           waiting = map (λ pieces. session_of room (map (λ piece. piece.items) pieces.items))
-            sessions.items;
+              sessions.items;
           closed = [];
           current = None;
           earlier = Some [];

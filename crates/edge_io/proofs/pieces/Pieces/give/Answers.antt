@@ -1,5 +1,5 @@
 -- What was copied to the front of the buffer are the first of the bytes left.
-use Rattle.std.proofs.Common.{◌≡◌, ◌+◌, ◌≤◌, List, ◌++◌, ℕ, length, refl, take, drop, ap, ◌∙◌, sym, arith, rules, length-drop}
+use Rattle.std.proofs.Common.{◌≡◌, ◌≤◌, List, ◌++◌, ℕ, length, refl, take, drop, ap, ◌∙◌, sym, arith, rules, length-drop}
 use Rattle.edge_io.specs.Pieces.{InPieces, pieces_after}
 use Rattle.edge_io.proofs.Fronts.{given_and_left, part_and_rest}
 use Rattle.edge_io.proofs.pieces.Pieces.give.Goals as goal

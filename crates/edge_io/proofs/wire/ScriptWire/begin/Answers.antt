@@ -1,4 +1,4 @@
-use Rattle.std.proofs.Common.{rules, All, drop, subst, sym}
+use Rattle.std.proofs.Common.{rules, All, subst, sym}
 use Rattle.std.proofs.lemmas.List.Elements.{All-drop}
 use Rattle.edge_io.specs.SessionScript.{IsFresh}
 use Rattle.edge_io.proofs.wire.ScriptWire.begin.Goals as goal
