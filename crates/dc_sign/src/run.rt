@@ -1,6 +1,8 @@
 //! Serving the requests that come over a link.
-ghost use Rattle.std.specs.Prelude.{◌≡◌, ◌≤◌, IfNone, IfSome};
+ghost use Rattle.std.specs.Prelude.{◌≡◌, ◌≤◌, [], ◌∷◌, IfNone, IfSome};
 ghost use Rattle.base_specs.specs.Counts.{Rose};
+ghost use Rattle.edge_traits.specs.Link.{TriedSends};
+ghost use Rattle.edge_traits.specs.Sink.{PutCounts};
 ghost use Rattle.dc_sign.specs.declared.tally.ServeWhy.{ServeWhy};
 ghost use Rattle.dc_sign.specs.Sending.{Sends};
 ghost use Rattle.dc_sign.specs.Serving.{Serves, StopsUnread, seen};
@@ -8,7 +10,7 @@ ghost use Rattle.dc_sign.specs.Turns.{TakesOne};
 
 use crate::tally::Outcome;
 use crate::{Answer, ServeEnd, ServeWhy, ServerInfo, answer, two_readings};
-use edge_traits::{Addr, Clock, Link, Receipt};
+use edge_traits::{Addr, Clock, Datagram, Link, Put, Receipt};
 use key_book::Keys;
 
 /// Serves so many turns. Each takes one receipt. For a datagram the clock is read twice, and the answer by the local
@@ -73,8 +75,17 @@ fn send_answer<L: Link>(link: &mut L, to: Addr, answer: &Answer) -> Outcome
         (L.faults link.old) (L.faults link.new) result }
 {
     match answer {
-        Answer::Signed(reply) => Outcome::Signed(link.send(to, reply.as_slice())),
-        Answer::Plain(reply) => Outcome::Plain(link.send(to, reply.as_slice())),
+        Answer::Signed(reply) => Outcome::Signed(send_reply(link, to, reply)),
+        Answer::Plain(reply) => Outcome::Plain(send_reply(link, to, reply)),
         Answer::Refused(reason) => Outcome::Refused(*reason),
     }
+}
+
+/// Sends a reply whole.
+fn send_reply<L: Link>(link: &mut L, to: Addr, reply: &Datagram) -> Put
+    ensures tried { TriedSends (L.told link.old) (L.told link.new)
+        (record { to = to; bytes = reply.now; put = result } ∷ []) }
+    ensures counts { PutCounts result (L.faults link.old) (L.faults link.new) }
+{
+    link.send(to, reply.as_slice())
 }
