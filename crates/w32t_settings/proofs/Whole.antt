@@ -1,0 +1,76 @@
+-- The lines of a text say one settings at most, and none where the text as a whole is bad.
+use Rattle.std.proofs.Common.{◌≡◌, ◌<◌, ◌≤◌, ◌^◌, inl, inr, List, Option, Some, None, sym, ◌∙◌, arith}
+use Rattle.std.specs.Prelude.{IsSome}
+use Rattle.std.specs.Coded.{le_prop}
+use mathlib.Core.HLevel.{is_prop→PathP, →_prop}
+use mathlib.Core.Bool.{Bool-set}
+use Rattle.phase_rule.specs.declared.limits.Limits.{Limits}
+use Rattle.ms_auth.specs.declared.packet.Kind.TheVariants.{Short}
+use Rattle.key_book.specs.AccountBook.{account_of, NoneHas}
+use Rattle.key_book.proofs.Finding.{missing}
+use Rattle.w32t_settings.specs.declared.settings.Settings.{Settings}
+use Rattle.w32t_settings.specs.SettingText.{Item}
+use Rattle.w32t_settings.specs.Values.{AreSettings, IsBadWhole}
+
+same_limits : (a b : Limits) → a.max_pos ≡ b.max_pos → a.max_neg ≡ b.max_neg → a.max_allowed ≡ b.max_allowed → a.min_poll ≡ b.min_poll
+    → a.max_poll ≡ b.max_poll → a ≡ b
+same_limits a b pos neg allowed low high =
+    λ i. record {
+      max_pos = pos i;
+      max_neg = neg i;
+      max_allowed = allowed i;
+      min_poll = low i;
+      max_poll = high i;
+      ordered = is_prop→PathP (λ j. low j ≤ high j) (λ j. le_prop) a.ordered b.ordered i;
+      bounded = is_prop→PathP (λ j. high j ≤ 17) (λ j. le_prop) a.bounded b.bounded i;
+    }
+
+some_is : {X : Type 0} (x y : X) → Some x ≡ Some y → x ≡ y
+some_is x y same = cc
+
+-- lines say one settings
+pub one_settings : (items : List Item) (a b : Settings) → AreSettings items a → AreSettings items b → a ≡ b
+one_settings items a b p q =
+    let name = some_is a.name b.name (sym p.name ∙ q.name) in
+    let role = some_is a.role b.role (sym p.role ∙ q.role) in
+    let rid = some_is a.rid b.rid (sym p.rid ∙ q.rid) in
+    let kind : a.kind ≡ b.kind = p.kind ∙ sym q.kind in
+    let limits = same_limits a.limits b.limits (rw role at p.max_pos ∙ sym q.max_pos) (rw role at p.max_neg ∙ sym q.max_neg)
+    (p.max_allowed ∙ sym q.max_allowed) (rw role at p.min_poll ∙ sym q.min_poll) (rw role at p.max_poll ∙ sym q.max_poll) in
+    let announce : a.announce ≡ b.announce = p.announce ∙ sym q.announce in
+    let book : a.book ≡ b.book = p.book ∙ sym q.book in
+    let directory : a.directory ≡ b.directory = p.directory ∙ sym q.directory in
+    λ i. record {
+      name = name i;
+      role = role i;
+      rid = rid i;
+      kind = kind i;
+      limits = limits i;
+      announce = announce i;
+      book = book i;
+      directory = directory i;
+      has_account = is_prop→PathP (λ j. IsSome (account_of (book j) (rid j))) (λ j. Bool-set _ _) a.has_account b.has_account i;
+      short_rid = is_prop→PathP (λ j. kind j ≡ Short → rid j < 2 ^ 31) (λ j. →_prop le_prop) a.short_rid b.short_rid i;
+    }
+
+not_some : {X : Type 0} (o : Option X) (x : X) → o ≡ None → o ≡ Some x → ⊥
+not_some o x none some = absurd (cc (none, some))
+
+-- a text that as a whole is bad says none
+pub whole_or_settings : (items : List Item) (s : Settings) → AreSettings items s → IsBadWhole items → ⊥
+whole_or_settings items s p (inl none) = not_some _ s.name none p.name
+whole_or_settings items s p (inr (inl none)) = not_some _ s.role none p.role
+whole_or_settings items s p (inr (inr (inl none))) = not_some _ s.rid none p.rid
+whole_or_settings items s p (inr (inr (inr (inl account)))) =
+    let rid = some_is account.rid s.rid (sym account.set ∙ p.rid) in
+    let none : NoneHas s.book s.rid = rw (p.book, ← rid) account.none in
+    let lacks = (missing s.book s.rid).1 none in
+    absurd (cc (lacks, s.has_account))
+whole_or_settings items s p (inr (inr (inr (inr (inl polls))))) =
+    let role = some_is polls.role s.role (sym polls.set ∙ p.role) in
+    let cross = rw role at polls.cross in
+    omega (arith, cross, p.min_poll, p.max_poll, s.limits.ordered)
+whole_or_settings items s p (inr (inr (inr (inr (inr long))))) =
+    let rid = some_is long.rid s.rid (sym long.set ∙ p.rid) in
+    let small = s.short_rid (p.kind ∙ long.short) in
+    omega (arith, long.long, rid, small)

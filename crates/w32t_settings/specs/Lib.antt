@@ -1,0 +1,4 @@
+pub mod Answer
+pub mod Progress
+pub mod SettingText
+pub mod Values
