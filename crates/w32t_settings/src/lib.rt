@@ -16,6 +16,8 @@ mod draft;
 mod read;
 mod setting;
 mod settings;
+#[cfg(test)]
+mod tests;
 mod values;
 
 pub use read::read_settings;

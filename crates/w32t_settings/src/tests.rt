@@ -1,0 +1,276 @@
+//! Settings texts and their answers. The expected lines and defaults were worked out by hand from the rules of the text.
+use crate::{Settings, SettingsFault, read_settings};
+use ms_auth::Kind;
+use partner_pick::Role;
+use std::alloc::Global;
+use std::process::Abort;
+use std::test::Fail;
+
+/// Four lines of a member that lack nothing.
+const MEMBER: &str =
+    "Name=WS1\nRole=Member\nRid=1103\naccount 1103 000102030405060708090a0b0c0d0e0f\n";
+
+/// What the text says.
+fn read(alloc: Global, text: &[u8]) -> Result<Result<Settings, SettingsFault>, Fail> {
+    if text.len() > 16_777_217 {
+        return Err(Fail::from("a text that is too long"));
+    }
+    Ok(read_settings(alloc, text))
+}
+
+/// The bad line that is named, and 0 where the text has settings.
+fn bad_line(alloc: Global, text: &[u8]) -> Result<u32, Fail> {
+    match read(alloc, text)? {
+        Ok(_) => Ok(0),
+        Err(SettingsFault::BadConfig(line)) => Ok(line),
+        Err(SettingsFault::NoMemory) => Err(Fail::from("no memory")),
+    }
+}
+
+/// The bad line of the four lines with these behind them, as `bad_line`.
+fn expect_behind<R: Abort + AllocGlobal>(rt: &R, table: &[(&[u8], u32)]) -> Result<(), Fail> {
+    for (more, want) in table {
+        let mut text = Vec::from_slice(rt.alloc(), MEMBER.as_bytes())?;
+        text.extend_from_slice(more)?;
+        assert_eq!(rt; bad_line(rt.alloc(), &text)?, *want, "at {more:?}");
+    }
+    Ok(())
+}
+
+fn expect_lines<R: Abort + AllocGlobal>(rt: &R, table: &[(&str, u32)]) -> Result<(), Fail> {
+    for (text, want) in table {
+        assert_eq!(rt;
+            bad_line(rt.alloc(), text.as_bytes())?,
+            *want,
+            "at {text:?}"
+        );
+    }
+    Ok(())
+}
+
+#[test]
+fn settings_refused(rt: HostRuntime) -> Result<(), Fail> {
+    expect_lines(
+        &rt,
+        &[
+            ("Name=WS1\nRole=Chief\n", 2),
+            ("Name=WS1\nRole=Member\n", 3),
+            ("Name=WS1\nRole=Member", 3),
+            ("", 1),
+            ("\n# Name=WS1\n\n", 4),
+        ],
+    )?;
+    let text =
+        b"Name=DC1\nRole=Pdc\nRid=1103\naccount 1103 000102030405060708090a0b0c0d0e0f\ncomputer DC1 10.0.0.1:123 S--E\n";
+    let settings = read(rt.alloc(), text)?.map_err(|_| "no settings")?;
+    assert_eq!(rt; settings.name.as_slice(), b"DC1".as_slice());
+    assert_eq!(rt; settings.role, Role::Pdc);
+    assert_eq!(rt; settings.rid, 1103);
+    assert_eq!(rt; settings.directory.len(), 1);
+    Ok(())
+}
+
+#[test]
+fn values_and_their_ranges(rt: HostRuntime) -> Result<(), Fail> {
+    expect_behind(
+        &rt,
+        &[
+            (b"Auth=Short", 0),
+            (b"Auth=Extended\n", 0),
+            (b"Auth=short", 5),
+            (b"Auth=", 5),
+            (b"MaxPosPhaseCorrection=0", 0),
+            (b"MaxPosPhaseCorrection=4294967295", 0),
+            (b"MaxPosPhaseCorrection=4294967296", 5),
+            (b"MaxPosPhaseCorrection=01", 5),
+            (b"MaxNegPhaseCorrection=4294967295", 0),
+            (b"MaxNegPhaseCorrection=4294967296", 5),
+            (b"MaxNegPhaseCorrection=-1", 5),
+            (b"MaxAllowedPhaseOffset=4294967295", 0),
+            (b"MaxAllowedPhaseOffset=4294967296", 5),
+            (b"MinPollInterval=0", 0),
+            (b"MinPollInterval=15", 0),
+            (b"MinPollInterval=16", 6),
+            (b"MinPollInterval=17", 6),
+            (b"MinPollInterval=18", 5),
+            (b"MaxPollInterval=17", 0),
+            (b"MaxPollInterval=18", 5),
+            (b"MaxPollInterval=10", 0),
+            (b"MaxPollInterval=9", 6),
+            (b"AnnounceFlags=0", 0),
+            (b"AnnounceFlags=15", 0),
+            (b"AnnounceFlags=16", 5),
+        ],
+    )
+}
+
+#[test]
+fn forms_of_a_line(rt: HostRuntime) -> Result<(), Fail> {
+    expect_behind(
+        &rt,
+        &[
+            (b" Auth=Short", 5),
+            (b"Auth =Short", 5),
+            (b"Auth= Short", 5),
+            (b"Auth=Short ", 5),
+            (b"Auth==Short", 5),
+            (b"Auth", 5),
+            (b"=", 5),
+            (b"auth=Short", 5),
+            (b"Flags=1", 5),
+            (b"account 5 00000000000000000000000000000000", 0),
+            (b"account 5 0000000000000000000000000000000", 5),
+            (b"account", 5),
+            (b"computer DC1 10.0.0.1:123 S---", 0),
+            (b"computer DC1 10.0.0.1:0 S---", 5),
+            (b"computer", 5),
+            (b" ", 5),
+            (b"\t", 5),
+            (b"\xFF", 5),
+            (b"\n\n\n", 0),
+            (b"# \xFF", 0),
+            (b"#\r", 0),
+            (b"\r\n", 0),
+            (b"\r", 5),
+            (b"Auth=Short\r\n", 0),
+            (b"Auth=Short\r", 5),
+            (b"Auth=Short\r\r\n", 5),
+        ],
+    )
+}
+
+#[test]
+fn repeats_and_first_faults(rt: HostRuntime) -> Result<(), Fail> {
+    expect_behind(
+        &rt,
+        &[
+            (b"Name=WS2", 5),
+            (b"Role=Member", 5),
+            (b"Rid=1104", 5),
+            (b"Auth=Short\nAuth=Extended", 6),
+            (b"AnnounceFlags=1\nAnnounceFlags=1", 6),
+            (b"account 1103 00000000000000000000000000000000", 5),
+            (
+                b"computer A 10.0.0.1:1 ----\ncomputer a 10.0.0.1:1 ----\ncomputer A 10.0.0.1:1 ----",
+                7,
+            ),
+            (b"X\nY", 5),
+            (b"#\n\nAuth=Short\nAuth=Short\nX", 8),
+            (b"MinPollInterval=16\nX", 6),
+            (b"MinPollInterval=16\n# 1\n\n", 8),
+        ],
+    )
+}
+
+#[test]
+fn texts_as_a_whole(rt: HostRuntime) -> Result<(), Fail> {
+    expect_lines(
+        &rt,
+        &[
+            (
+                "Role=Member\nRid=5\naccount 5 00000000000000000000000000000000\n",
+                4,
+            ),
+            (
+                "Name=A\nRid=5\naccount 5 00000000000000000000000000000000\n",
+                4,
+            ),
+            (
+                "Name=A\nRole=Pdc\naccount 5 00000000000000000000000000000000\n",
+                4,
+            ),
+            (
+                "Name=A\nRole=Pdc\nRid=6\naccount 5 00000000000000000000000000000000\n",
+                5,
+            ),
+            ("Name=A\nRole=Pdc\nRid=5\n", 4),
+            (
+                "Name=A\nRole=Pdc\nRid=2147483647\naccount 2147483647 00000000000000000000000000000000\n",
+                0,
+            ),
+            (
+                "Name=A\nRole=Pdc\nRid=2147483648\naccount 2147483648 00000000000000000000000000000000\n",
+                5,
+            ),
+            (
+                "Auth=Extended\nName=A\nRole=Pdc\nRid=4294967295\naccount 4294967295 00000000000000000000000000000000\n",
+                0,
+            ),
+            ("Rid=4294967296\n", 1),
+            ("Rid=05\n", 1),
+            ("Name=\n", 1),
+            (
+                "Name=123456789012345678901234567890123456789012345678901234567890123\n",
+                2,
+            ),
+            (
+                "Name=1234567890123456789012345678901234567890123456789012345678901234\n",
+                1,
+            ),
+            ("MinPollInterval=7\nMaxPollInterval=6\n", 3),
+        ],
+    )
+}
+
+/// What is set, or the defaults: the three limits, the two poll exponents and the flags.
+fn numbers(settings: &Settings) -> [u32; 6] {
+    [
+        settings.limits.max_pos,
+        settings.limits.max_neg,
+        settings.limits.max_allowed,
+        u32::from(settings.limits.min_poll),
+        u32::from(settings.limits.max_poll),
+        u32::from(settings.announce),
+    ]
+}
+
+#[test]
+fn defaults_by_role(rt: HostRuntime) -> Result<(), Fail> {
+    let member = [4_294_967_295, 4_294_967_295, 300, 10, 15, 10];
+    let controller = [172_800, 172_800, 300, 6, 10, 10];
+    let table: [(&str, &str, Kind, [u32; 6]); 6] = [
+        ("", "Role=Member\n", Kind::Short, member),
+        ("Role=Member\n", "", Kind::Short, member),
+        ("", "Role=Controller\n", Kind::Short, controller),
+        ("", "Role=Pdc\nAuth=Extended\n", Kind::Extended, controller),
+        (
+            "MinPollInterval=3\nMaxPosPhaseCorrection=1\n",
+            "Role=Controller\nAnnounceFlags=5\n",
+            Kind::Short,
+            [1, 172_800, 300, 3, 10, 5],
+        ),
+        (
+            "MaxNegPhaseCorrection=2\nMaxAllowedPhaseOffset=0\nMaxPollInterval=17\n",
+            "Role=Member\n",
+            Kind::Short,
+            [4_294_967_295, 2, 0, 10, 17, 10],
+        ),
+    ];
+    for (front, back, kind, want) in table {
+        let alloc = rt.alloc();
+        let text = format!(in alloc;
+            "{front}Name=A\nRid=5\naccount 5 00000000000000000000000000000000\n{back}"
+        )?;
+        let settings = read(alloc, text.as_bytes())?.map_err(|_| "no settings")?;
+        assert_eq!(rt; settings.kind, kind, "at {front}, {back}");
+        assert_eq!(rt; numbers(&settings), want, "at {front}, {back}");
+    }
+    Ok(())
+}
+
+#[test]
+fn longest_text(rt: HostRuntime) -> Result<(), Fail> {
+    let alloc = rt.alloc();
+    let mut text = Vec::from_slice(alloc, MEMBER.as_bytes())?;
+    for _ in MEMBER.len()..16_777_216 {
+        text.push(b'#')?;
+    }
+    assert_eq!(rt; bad_line(alloc, &text)?, 0);
+    // One byte more makes its line bad, also where it ends a comment.
+    text.push(b'\n')?;
+    assert_eq!(rt; bad_line(alloc, &text)?, 5);
+    // An earlier bad line is named before it.
+    text[0] = b'X';
+    assert_eq!(rt; bad_line(alloc, &text)?, 1);
+    Ok(())
+}
