@@ -53,8 +53,7 @@ one_port a b text p q = decimal_injective a b (omega (arith, p.fits)) (omega (ar
 pub one_socket_address : (ip port jp qort : ℕ) (text : List ℕ) → SpellsSocketAddress ip port text → SpellsSocketAddress jp qort text
     → (ip ≡ jp) × (port ≡ qort)
 one_socket_address ip port jp qort text p q =
-    let cut = one_cut 58 p.address p.digits q.address q.digits (address_no_colon ip _ p.address_spelled) (address_no_colon jp _ q.address_spelled) (sym p.written ∙ q.written) in
-    (
+    let cut = one_cut 58 p.address p.digits q.address q.digits (address_no_colon ip _ p.address_spelled) (address_no_colon jp _ q.address_spelled) (sym p.written ∙ q.written) in (
       one_address ip jp q.address (rw cut.0 at p.address_spelled) q.address_spelled,
       one_port port qort q.digits (rw cut.1 at p.port_spelled) q.port_spelled,
     )
