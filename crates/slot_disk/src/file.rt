@@ -1,0 +1,146 @@
+//! A disk in a file of the machine.
+ghost use Rattle.std.specs.Prelude.{◌≡◌, ◌↔◌, ◌+◌, ◌≤◌, IsOk, IsTrue, length, false};
+ghost use Rattle.edge_traits.specs.Sink.{PutCounts};
+ghost use Rattle.slot_disk.specs.Calls.{Ticks};
+ghost use Rattle.slot_disk.specs.File.{calls_of, file_faults, is_open};
+
+use crate::{DISK_LEN, Disk, Put};
+use std::fs::{File, Files, OpenOptions};
+use std::io;
+use std::os::unix::fs::FileExt;
+use std::path::Path;
+
+/// The first 256 bytes of a file.
+///
+/// It tells nothing but the number of its calls. What the file holds, and that the device keeps what a sync
+/// brought to it, is trusted. A system call that is interrupted is made again, and is no fault.
+#[derive(Drop)]
+pub struct FileDisk {
+    file: Option<File>,
+    calls: u64,
+    faults: u64,
+}
+
+impl FileDisk {
+    /// Opens a file for reading and writing, and creates it where it is missing. A shorter file is filled
+    /// with zero bytes to 256. A new or short file's folder is synced before it is filled, so it must be readable.
+    /// Bytes past 256 are never touched. Where one of these can't be done, the disk is one without a file.
+    pub fn open<R: Files<File = File>>(files: &R, path: &str) -> FileDisk
+        ensures calls { calls_of result ≡ 0 }
+        ensures faults { file_faults result ≡ 0 }
+    {
+        FileDisk {
+            file: open_filled(files, path).ok(),
+            calls: 0,
+            faults: 0,
+        }
+    }
+
+    /// A disk without a file, of which every call fails.
+    pub fn without_file() -> FileDisk
+        ensures calls { calls_of result ≡ 0 }
+        ensures faults { file_faults result ≡ 0 }
+        ensures closed { is_open result ≡ false }
+    {
+        FileDisk {
+            file: None,
+            calls: 0,
+            faults: 0,
+        }
+    }
+
+    // Counts a call by what came of it.
+    fn answer(&mut self, outcome: io::Result<()>) -> Put
+        ensures done { (result ≡ Put.Done) ↔ IsOk outcome }
+        ensures calls { Ticks (calls_of self.old) (calls_of self.new) }
+        ensures cause { PutCounts result (file_faults self.old) (file_faults self.new) }
+        ensures same_file { is_open self.new ≡ is_open self.old }
+    {
+        self.calls = self.calls.saturating_add(1);
+        match outcome {
+            Ok(()) => Put::Done,
+            Err(_) => {
+                self.faults = self.faults.saturating_add(1);
+                Put::Failed
+            }
+        }
+    }
+}
+
+fn no_file() -> io::Error {
+    io::Error::from(io::ErrorKind::NotFound)
+}
+
+/// The open file, of at least 256 bytes.
+fn open_filled<R: Files<File = File>>(files: &R, path: &str) -> io::Result<File> {
+    let file = OpenOptions::new()
+        .read(true)
+        .write(true)
+        .create(true)
+        .open(files, path)?;
+    if file.metadata()?.len() < DISK_LEN as u64 {
+        // The name of a new file has to outlast a crash before anything is written.
+        File::open(files, folder_of(path))?.sync_all()?;
+        file.set_len(DISK_LEN as u64)?;
+    }
+    Ok(file)
+}
+
+/// The folder that the path's last name stands in.
+fn folder_of(path: &str) -> &str {
+    match Path::new(path).parent() {
+        Some(folder) if !folder.as_str().is_empty() => folder.as_str(),
+        _ => ".",
+    }
+}
+
+impl Disk for FileDisk {
+    ghost use Rattle.slot_disk.specs.Calls.{Elapses, Reads, Syncs, Writes};
+    ghost use Rattle.slot_disk.specs.File.{AnswersFor, file_is_disk, file_tells};
+
+    ghost told = { file_tells };
+
+    ghost faults = { file_faults };
+
+    ghost is_disk = { file_is_disk };
+
+    fn read(&mut self, buf: &mut [u8; 256]) -> Put
+        ensures reads { Reads result buf.new (file_tells self.old) (file_tells self.new) }
+        ensures elapses { Elapses (file_tells self.old) (file_tells self.new) }
+        ensures cause { PutCounts result (file_faults self.old) (file_faults self.new) }
+        ensures file { AnswersFor self.old self.new result }
+    {
+        let outcome = match &self.file {
+            Some(file) => file.read_exact_at(buf, 0),
+            None => Err(no_file()),
+        };
+        self.answer(outcome)
+    }
+
+    fn write_at(&mut self, at: usize, piece: &[u8]) -> Put
+        requires { at + length piece.now ≤ 256 }
+        ensures writes { Writes result at piece.now (file_tells self.old) (file_tells self.new) }
+        ensures elapses { Elapses (file_tells self.old) (file_tells self.new) }
+        ensures cause { PutCounts result (file_faults self.old) (file_faults self.new) }
+        ensures file { AnswersFor self.old self.new result }
+    {
+        let outcome = match &self.file {
+            Some(file) => file.write_all_at(piece, at as u64),
+            None => Err(no_file()),
+        };
+        self.answer(outcome)
+    }
+
+    fn sync(&mut self) -> Put
+        ensures syncs { Syncs result (file_tells self.old) (file_tells self.new) }
+        ensures elapses { Elapses (file_tells self.old) (file_tells self.new) }
+        ensures cause { PutCounts result (file_faults self.old) (file_faults self.new) }
+        ensures file { AnswersFor self.old self.new result }
+    {
+        let outcome = match &self.file {
+            Some(file) => file.sync_data(),
+            None => Err(no_file()),
+        };
+        self.answer(outcome)
+    }
+}

@@ -1,0 +1,144 @@
+use crate::{Disk, FileDisk, FuseDisk, MemoryDisk, Put};
+use std::alloc::Global;
+use std::fs;
+use std::test::Fail;
+
+const FOLDER: &str = "slot_disk_test";
+
+const PATH: &str = "slot_disk_test/keeper";
+
+/// A call of a disk.
+#[derive(Clone, Copy, Debug)]
+enum Call {
+    Read,
+    /// A byte at a place.
+    Write(u8, u8),
+    Sync,
+}
+
+fn make<D: Disk>(disk: &mut D, call: Call) -> Put {
+    match call {
+        Call::Read => disk.read(&mut [0; 256]),
+        Call::Write(at, byte) => disk.write_at(at as usize, &[byte]),
+        Call::Sync => disk.sync(),
+    }
+}
+
+/// A disk of zero bytes on which the calls of these numbers fail, with room for six.
+fn zero_disk(alloc: Global, fails: &[u64]) -> Result<MemoryDisk, Fail> {
+    let fails = fails.to_vec(alloc)?;
+    match MemoryDisk::new(alloc, [0; 256], fails, 6) {
+        Ok(disk) => Ok(disk),
+        Err(_) => Err(Fail::from("no memory")),
+    }
+}
+
+/// Which of 0, 1 and A5 stand at a place in some image that a crash may leave.
+fn seen_at(disk: &MemoryDisk, at: u8) -> [bool; 3] {
+    let mut seen = [false; 3];
+    for n in 0..64 {
+        let byte = disk.pick(n)[at as usize];
+        seen[0] |= byte == 0;
+        seen[1] |= byte == 1;
+        seen[2] |= byte == 0xA5;
+    }
+    seen
+}
+
+// Calls 3 and 5 fail, and the room ends after call 6.
+#[test]
+fn tears_what_is_not_synced(rt: HostRuntime) -> Result<(), Fail> {
+    let mut disk = zero_disk(rt.alloc(), &[3, 5])?;
+    for (call, put, content, seen) in [
+        (Call::Read, Put::Done, [0, 0], [true, false, false]),
+        (Call::Write(0, 1), Put::Done, [1, 0], [true, true, true]),
+        (Call::Write(1, 1), Put::Failed, [1, 0], [true, true, true]),
+        (Call::Sync, Put::Done, [1, 0], [false, true, false]),
+        (Call::Sync, Put::Failed, [1, 0], [false, true, false]),
+        (Call::Write(1, 9), Put::Done, [1, 9], [false, true, false]),
+        (Call::Write(0, 9), Put::Failed, [1, 9], [false, true, false]),
+    ] {
+        assert_eq!(rt; make(&mut disk, call), put, "{call:?}");
+        assert_eq!(rt; &disk.content()[..2], content.as_slice(), "{call:?}");
+        assert_eq!(rt; seen_at(&disk, 0), seen, "{call:?}");
+    }
+    Ok(())
+}
+
+#[test]
+fn stops_when_the_fuse_has_blown(rt: HostRuntime) -> Result<(), Fail> {
+    let disk = zero_disk(rt.alloc(), &[1])?;
+    let Ok(mut fuse) = FuseDisk::new(rt.alloc(), disk, 2) else {
+        return Err(Fail::from("no memory"));
+    };
+    for (call, put) in [
+        (Call::Sync, Put::Failed),
+        (Call::Write(0, 1), Put::Done),
+        (Call::Write(1, 1), Put::Failed),
+        (Call::Sync, Put::Failed),
+        (Call::Read, Put::Failed),
+    ] {
+        assert_eq!(rt; make(&mut fuse, call), put, "{call:?}");
+    }
+    assert_eq!(rt; &fuse.disk().content()[..3], [1, 0, 0].as_slice());
+    assert_eq!(rt; seen_at(fuse.disk(), 1), [true, false, true]);
+    assert_eq!(rt; seen_at(fuse.disk(), 2), [true, false, false]);
+    Ok(())
+}
+
+/// Writes four pieces by way of a disk, and gives what a new disk then reads.
+fn written(rt: &HostRuntime) -> ([u8; 256], [Put; 6]) {
+    let mut disk = FileDisk::open(rt, PATH);
+    let mut image = [9; 256];
+    let puts = [
+        disk.write_at(0, &[1, 2, 3]),
+        disk.write_at(65, &[4; 7]),
+        disk.write_at(128, &[0xA5]),
+        disk.write_at(249, &[7; 7]),
+        disk.sync(),
+        FileDisk::open(rt, PATH).read(&mut image),
+    ];
+    (image, puts)
+}
+
+/// Five bytes and then one byte to the end, with those four pieces written there.
+fn with_pieces(first: [u8; 5], rest: u8) -> [u8; 256] {
+    let mut image = [rest; 256];
+    image[..5].copy_from_slice(&first);
+    image[..3].copy_from_slice(&[1, 2, 3]);
+    image[65..72].copy_from_slice(&[4; 7]);
+    image[128] = 0xA5;
+    image[249..].copy_from_slice(&[7; 7]);
+    image
+}
+
+#[test]
+fn keeps_its_bytes_in_a_file(rt: HostRuntime) -> Result<(), Fail> {
+    let _ = fs::remove_dir_all(&rt, FOLDER);
+    fs::create_dir(&rt, FOLDER)?;
+    // A missing file is created, a shorter one filled, and a longer one keeps its rest.
+    for (before, first, rest, after) in [
+        (0, [0; 5], 0, 256),
+        (5, [3; 5], 0, 256),
+        (256, [3; 5], 3, 256),
+        (300, [3; 5], 3, 300),
+    ] {
+        if before > 0 {
+            fs::write(&rt, PATH, &[3u8; 300][..before])?;
+        }
+        let want = with_pieces(first, rest);
+        assert_eq!(rt; written(&rt), (want, [Put::Done; 6]), "{before}");
+        let bytes = fs::read(&rt, PATH)?;
+        assert_eq!(rt; bytes.len(), after, "{before}");
+        assert_eq!(rt; bytes.get(..256), Some(want.as_slice()), "{before}");
+        assert!(rt; bytes.iter().skip(256).all(|byte| *byte == 3), "{before}");
+    }
+    // What can't be opened for writing fails at every call.
+    for mut closed in [FileDisk::open(&rt, FOLDER), FileDisk::without_file()] {
+        for call in [Call::Read, Call::Write(0, 1), Call::Sync] {
+            assert_eq!(rt; make(&mut closed, call), Put::Failed, "{call:?}");
+        }
+    }
+    fs::remove_dir_all(&rt, FOLDER)?;
+    Ok(())
+}

@@ -1,0 +1,5 @@
+pub mod Image
+pub mod Slots
+pub mod Survey
+pub mod Keep
+pub mod Steps
