@@ -1,5 +1,5 @@
 -- What stands in a name.
-use Rattle.std.proofs.Common.{◌≡◌, ◌<◌, ℕ, true, false, List, length, get_or, refl, sym, ◌∙◌, ap, arith}
+use Rattle.std.proofs.Common.{◌≡◌, ◌<◌, ℕ, true, false, List, get_or, refl, sym, ◌∙◌, ap, arith}
 use Rattle.std.specs.List.{All}
 use Rattle.text_grammar.specs.Bytes.{HasNo}
 use Rattle.text_grammar.specs.Name.{IsName, is_name_byte}

@@ -1,18 +1,19 @@
-//! The parts of texts and words: lines, numbers in decimal, and keys in hexadecimal digits.
+//! The parts of texts and words: lines, numbers in decimal, keys in hexadecimal digits, names and addresses.
 //!
 //! Each part has its definition apart from the code, and each reader's contract says both directions: what it
 //! reads is spelled so, and whatever is spelled so is read. The lines of a text are `lines` of std; a number
 //! has one spelling, `decimal` of std; a key is what `decode_of` of the crate `hex` makes of its digits, which
-//! may be in either case.
+//! may be in either case. Names are in `specs/Name.antt`, addresses and ports in `specs/Address.antt`; a text spells
+//! one of them at most.
 //!
 //! Texts of lines have one form of definition, in `specs/Lines.antt`: a `TextForm` says which lines are looked
 //! at, what each of these may say, and which two sayings don't stand in one text. The lines of a text `Say`
 //! values, or there is a first bad line, which `IsFirstBad` names beside what the lines before it say.
 //!
 //! It stands on std and `hex` alone. The layers above read line by line with [`next_line`] and cut lines at
-//! their blanks and colons, which no number and no key has in it. For their proofs, `proofs/Progress.antt` has
-//! the steps of a loop over lines, `proofs/Forms.antt` that one verdict is true of a text, and `Cuts.antt`,
-//! `Decimals.antt` and `Keys.antt` what stands in a line's parts.
+//! their blanks and colons, which no number, key, name or address has in it. For their proofs, `proofs/Progress.antt`
+//! has the steps of a loop over lines, `proofs/Forms.antt` that one verdict is true of a text, and `Cuts.antt`,
+//! `Decimals.antt`, `Keys.antt`, `Naming.antt` and `Dotted.antt` what stands in a line's parts.
 #![tactic(auto)]
 
 mod addresses;

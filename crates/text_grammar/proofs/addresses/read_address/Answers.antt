@@ -1,4 +1,3 @@
-use Rattle.std.proofs.Common.{◌≡◌, ◌∙◌, ap, sym}
 use Rattle.text_grammar.proofs.addresses.read_address.Goals as goal
 
 pub returns-in_err-b-clause-found : goal.returns-in_err-b-clause-found

@@ -1,4 +1,4 @@
-use Rattle.std.proofs.Common.{◌≡◌, ◌<◌, ◌^◌, ◌++◌, ◌∷◌, ℕ, List, decimal, sym, arith}
+use Rattle.std.proofs.Common.{decimal, arith}
 use Rattle.text_grammar.proofs.Decimals.{no_dot}
 use Rattle.text_grammar.proofs.addresses.read_part.Goals as goal
 

@@ -1,4 +1,3 @@
-use Rattle.std.proofs.Common.{◌≡◌, ap, sym}
 use Rattle.text_grammar.proofs.Dotted.{address_no_colon}
 use Rattle.text_grammar.proofs.addresses.read_socket_address.Goals as goal
 
