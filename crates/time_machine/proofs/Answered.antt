@@ -1,5 +1,5 @@
 -- An arrival answers one open request at most, and its timestamps stand for one moment each.
-use Rattle.std.proofs.Common.{◌≡◌, ℕ, ◌==◌, ◌&&◌, cond, Bool, true, false, Option, Some, IfSome, List, [], ◌∷◌, ◌⊎◌, inl, inr, refl, sym, ◌∙◌, subst, arith, ℤ, if◌then◌else◌}
+use Rattle.std.proofs.Common.{◌≡◌, ℕ, ◌&&◌, cond, Bool, true, false, Some, IfSome, List, [], ◌∷◌, ◌⊎◌, inl, inr, refl, sym, ◌∙◌, subst, arith, ℤ, if◌then◌else◌}
 use Rattle.std.specs.List.{AllByRecursion, Contains, IsDistinct}
 use Rattle.std.specs.Prelude.{is_some, find}
 use Rattle.std.proofs.lemmas.List.Elements.{Contains-append_cases, Contains-append_right}
@@ -13,11 +13,9 @@ use Rattle.edge_traits.specs.declared.datagram.Addr.{Addr}
 use Rattle.ntp_wire.specs.Fields.{originate_of}
 use Rattle.capture_fmt.specs.declared.event.Event.{Event}
 use Rattle.capture_fmt.specs.declared.event.Event.TheVariants.{Life, Tick, Resync, Arrive}
-use Rattle.time_machine.specs.declared.outcome.Outcome.{Outcome}
 use Rattle.time_machine.specs.declared.outcome.Outcome.TheVariants.{Idle, Sent}
-use Rattle.time_machine.specs.declared.conf.Conf.{Conf}
 use Rattle.time_machine.specs.Told.{request_sent, count_moved}
-use Rattle.time_machine.specs.Words.{Words, words}
+use Rattle.time_machine.specs.Words.{words}
 use Rattle.time_machine.specs.Machine.{told, is_due, outcome_at}
 use Rattle.time_machine.specs.Verdict.{is_answered}
 use Rattle.time_machine.specs.Laws.{AnswersOpen, LawOfAccepted, LawOfAnswer, LawOfSends}

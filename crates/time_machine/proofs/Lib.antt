@@ -7,3 +7,4 @@ pub mod Lists
 pub mod Open
 pub mod Positions
 pub mod Room
+pub mod Sent

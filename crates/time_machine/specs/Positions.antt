@@ -7,7 +7,7 @@ use Rattle.time_machine.specs.declared.outcome.Request.{Request}
 use Rattle.time_machine.specs.Entries.{count_of}
 use Rattle.time_machine.specs.Told.{Told, is_turning_point, is_accepted, has_sent, base_left, offset_moved}
 use Rattle.time_machine.specs.Words.{words, since, life_at, poll_set, all_sent, IsOpen}
-use Rattle.time_machine.specs.Machine.{told}
+use Rattle.time_machine.specs.Machine.{told, requests_of}
 use Rattle.time_machine.specs.Growing.{Grows}
 use Rattle.time_machine.specs.Events.{History, is_life, is_reset, reading_of, mark_of}
 
@@ -29,6 +29,12 @@ LawOfLifeWords = (conf : Conf) (newer older : List Told) (t : Told) →
     AllByRecursion (λ s. is_life s.event ≡ false) newer → is_life t.event ≡ true →
     ((words conf (newer ++ t ∷ older)).mark ≡ mark_of t.event)
     × ((words conf (newer ++ t ∷ older)).sent ≡ count_of has_sent newer)
+
+-- in a history of one life, as many requests were sent in that life as in all
+abbrev pub LawOfSent : Type 0
+LawOfSent = (conf : Conf) (newer : History) (e : Event) →
+    AllByRecursion (λ d. is_life d ≡ false) newer → is_life e ≡ true →
+    (words conf (told conf (newer ++ e ∷ []))).sent ≡ length (requests_of conf (newer ++ e ∷ []))
 
 -- the base is left by the last event of this life that leaves one
 abbrev pub LawOfBase : Type 0

@@ -1,6 +1,6 @@
 //! Laws of the time machine.
 ghost use Rattle.time_machine.specs.Laws.{LawOfAccepted, LawOfAnswer, LawOfCounts, LawOfJoins, LawOfLives, LawOfMore, LawOfMoves, LawOfNone, LawOfOne, LawOfRoom, LawOfSends, LawOfTimes};
-ghost use Rattle.time_machine.specs.Positions.{LawOfBase, LawOfChanges, LawOfEight, LawOfFirst, LawOfGreatest, LawOfLifeWords, LawOfNothing, LawOfOpen, LawOfPoll, LawOfPrefix, LawOfSince, LawOfSource, LawOfThisLife};
+ghost use Rattle.time_machine.specs.Positions.{LawOfBase, LawOfChanges, LawOfEight, LawOfFirst, LawOfGreatest, LawOfLifeWords, LawOfNothing, LawOfOpen, LawOfPoll, LawOfPrefix, LawOfSent, LawOfSince, LawOfSource, LawOfThisLife};
 
 /// What holds of histories, whatever is in them: of those that grow, of every one where that isn't asked.
 pub fn laws_of_histories()
@@ -29,6 +29,7 @@ pub fn laws_of_positions()
     ensures since { LawOfSince }
     ensures life { LawOfThisLife }
     ensures life_words { LawOfLifeWords }
+    ensures sent { LawOfSent }
     ensures base { LawOfBase }
     ensures nothing { LawOfNothing }
     ensures source { LawOfSource }

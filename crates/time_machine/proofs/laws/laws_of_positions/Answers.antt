@@ -1,4 +1,5 @@
 use Rattle.time_machine.proofs.Positions.{since_at, this_life_at, life_words_at, base_at, source_at, nothing_at, changes_at, poll_law, eight_at, greatest_at, first_at, prefix_at}
+use Rattle.time_machine.proofs.Sent.{sent_at}
 use Rattle.time_machine.proofs.Open.{open_at}
 use Rattle.time_machine.proofs.laws.laws_of_positions.Goals as goal
 
@@ -8,6 +9,7 @@ returns c =
       since = since_at;
       life = this_life_at;
       life_words = life_words_at;
+      sent = sent_at;
       base = base_at;
       nothing = nothing_at;
       source = source_at;

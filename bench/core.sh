@@ -1,0 +1,40 @@
+#!/bin/bash
+# What an event costs a member: requests, replies of each kind, stray and forged ones, beside the digest alone.
+# Needs the built program: `rt run` in crates/core_bench leaves it in crates/core_bench/out/core_bench.
+set -u
+cd "$(dirname "$0")/.." || exit 1
+program=crates/core_bench/out/core_bench
+rounds=${1:-500}
+requests=4000
+if [ ! -x "$program" ]; then
+    echo "bench/core.sh: build the program first (rt run in crates/core_bench)" >&2
+    exit 1
+fi
+
+# The processor's time of a run of so many rounds, in seconds.
+seconds() {
+    local TIMEFORMAT=%U
+    { time "$program" "$1" "$2" >/dev/null; } 2>&1
+}
+
+# Nanoseconds for a request, with its reply: a run of all rounds, less a run of none.
+nanoseconds() {
+    local none all
+    none=$(seconds "$1" 0)
+    all=$(seconds "$1" "$rounds")
+    awk -v a="$all" -v n="$none" -v k=$((rounds * requests)) 'BEGIN { printf "%.1f", (a - n) * 1e9 / k }'
+}
+
+declare -A cost
+for work in ticks short extended stray forged md5 hmac; do
+    "$program" "$work" 1 >/dev/null || { echo "bench/core.sh: a run failed" >&2; exit 1; }
+    cost[$work]=$(nanoseconds "$work")
+done
+awk -v t="${cost[ticks]}" -v s="${cost[short]}" -v e="${cost[extended]}" -v l="${cost[stray]}" -v f="${cost[forged]}" \
+    -v m="${cost[md5]}" -v h="${cost[hmac]}" 'BEGIN {
+    printf "a request that is sent: %.0f ns, %.0f events a second\n", t, 1e9 / t
+    printf "a short reply that is accepted: %.0f ns, %.2f times its digest (%.0f ns)\n", s - t, (s - t) / m, m
+    printf "an extended reply that is accepted: %.0f ns, %.2f times its digest (%.0f ns)\n", e - t, (e - t) / h, h
+    printf "a short reply under another key: %.0f ns, %.2f times its digest\n", f - t, (f - t) / m
+    printf "a reply to no request: %.0f ns, %.2f times a digest\n", l - t, (l - t) / m
+}'
