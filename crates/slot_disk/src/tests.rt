@@ -101,14 +101,25 @@ fn written(rt: &HostRuntime) -> ([u8; 256], [Put; 6]) {
     (image, puts)
 }
 
-/// Five bytes and then one byte to the end, with those four pieces written there.
-fn with_pieces(first: [u8; 5], rest: u8) -> [u8; 256] {
-    let mut image = [rest; 256];
-    image[..5].copy_from_slice(&first);
-    image[..3].copy_from_slice(&[1, 2, 3]);
-    image[65..72].copy_from_slice(&[4; 7]);
-    image[128] = 0xA5;
-    image[249..].copy_from_slice(&[7; 7]);
+/// The byte at a place where those four pieces were written over `first` in five bytes and `rest` in all others.
+fn byte_at(at: usize, first: u8, rest: u8) -> u8 {
+    match at {
+        0 => 1,
+        1 => 2,
+        2 => 3,
+        3..=4 => first,
+        65..=71 => 4,
+        128 => 0xA5,
+        249..=255 => 7,
+        _ => rest,
+    }
+}
+
+fn with_pieces(first: u8, rest: u8) -> [u8; 256] {
+    let mut image = [0; 256];
+    for at in 0..256 {
+        image[at] = byte_at(at, first, rest);
+    }
     image
 }
 
@@ -118,10 +129,10 @@ fn keeps_its_bytes_in_a_file(rt: HostRuntime) -> Result<(), Fail> {
     fs::create_dir(&rt, FOLDER)?;
     // A missing file is created, a shorter one filled, and a longer one keeps its rest.
     for (before, first, rest, after) in [
-        (0, [0; 5], 0, 256),
-        (5, [3; 5], 0, 256),
-        (256, [3; 5], 3, 256),
-        (300, [3; 5], 3, 300),
+        (0, 0, 0, 256),
+        (5, 3, 0, 256),
+        (256, 3, 3, 256),
+        (300, 3, 3, 300),
     ] {
         if before > 0 {
             fs::write(&rt, PATH, &[3u8; 300][..before])?;
