@@ -23,6 +23,7 @@ mod tests;
 mod times;
 
 pub use laws::laws_of_members;
+pub use line_text::LineText;
 pub use member::Member;
 pub use report::line_of;
 pub use time_machine::{Conf, How, Outcome, Partners, Reason};
