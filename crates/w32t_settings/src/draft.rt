@@ -39,7 +39,8 @@ impl Draft {
 
     /// Keeps what the line with this number says.
     pub(crate) fn take(&mut self, number: u32, line: &[u8]) -> Result<(), SettingsFault>
-        ensures { (items : List Item) → Holds items self.old → Takes number line.now items self.new result }
+        ensures { (items : List Item) → Holds items self.old
+            → Takes number line.now items self.new result }
     {
         if is_skipped(line) {
             Ok(())
@@ -55,7 +56,8 @@ impl Draft {
     fn take_account(&mut self, number: u32, line: &[u8]) -> Result<(), SettingsFault>
         requires seen { is_skipped line.now ≡ false }
         requires begins { starts_with nat_eq line.now (codes "account ") ≡ true }
-        ensures { (items : List Item) → Holds items self.old → Takes number line.now items self.new result }
+        ensures { (items : List Item) → Holds items self.old
+            → Takes number line.now items self.new result }
     {
         let Some(account) = read_account(line) else {
             return Err(SettingsFault::BadConfig(number));
@@ -72,7 +74,8 @@ impl Draft {
     fn take_computer(&mut self, number: u32, line: &[u8]) -> Result<(), SettingsFault>
         requires seen { is_skipped line.now ≡ false }
         requires begins { starts_with nat_eq line.now (codes "computer ") ≡ true }
-        ensures { (items : List Item) → Holds items self.old → Takes number line.now items self.new result }
+        ensures { (items : List Item) → Holds items self.old
+            → Takes number line.now items self.new result }
     {
         let Some(entry) = read_entry(line) else {
             return Err(SettingsFault::BadConfig(number));
@@ -88,7 +91,8 @@ impl Draft {
         requires seen { is_skipped line.now ≡ false }
         requires no_account { starts_with nat_eq line.now (codes "account ") ≡ false }
         requires no_computer { starts_with nat_eq line.now (codes "computer ") ≡ false }
-        ensures { (items : List Item) → Holds items self.old → Takes number line.now items self.new result }
+        ensures { (items : List Item) → Holds items self.old
+            → Takes number line.now items self.new result }
     {
         let Some(setting) = read_setting(line) else {
             return Err(SettingsFault::BadConfig(number));

@@ -21,11 +21,11 @@ const LONGEST: usize = 16_777_216;
 /// 17); AnnounceFlags (0 to 15). What isn't set has the default of the role, wherever the line of Role stands.
 ///
 /// [`SettingsFault::BadConfig`] names the least bad line, counted from 1 with skipped lines: one of another form, one
-/// that repeats a setting, a RID or a computer's name, or the one in which byte 16,777,217 stands, comment or not. Where
-/// no line is bad, the text is bad at the number of its lines and one more where a required setting is missing, no
-/// account line has the RID of Rid, MinPollInterval is above MaxPollInterval, or Auth is Short and Rid is 2,147,483,648
-/// or more. [`SettingsFault::NoMemory`] may come instead of every answer. A text that goes on is handed over as its
-/// first 16,777,217 bytes.
+/// that repeats a setting, a RID or a computer's name, or the one in which byte 16,777,217 stands, comment or not.
+/// Where no line is bad, the text is bad at the number of its lines and one more where a required setting is missing,
+/// no account line has the RID of Rid, MinPollInterval is above MaxPollInterval, or Auth is Short and Rid is
+/// 2,147,483,648 or more. [`SettingsFault::NoMemory`] may come instead of every answer. A text that goes on is handed
+/// over as its first 16,777,217 bytes.
 pub fn read_settings(alloc: Global, text: &[u8]) -> Result<Settings, SettingsFault>
     requires { length text.now ≤ 16777217 }
     // What is answered is true of the text.

@@ -1,4 +1,5 @@
-//! Settings texts and their answers. The expected lines and defaults were worked out by hand from the rules of the text.
+//! Settings texts and their answers. The expected lines and defaults were worked out by hand from the rules of the
+//! text.
 use crate::{Settings, SettingsFault, read_settings};
 use ms_auth::Kind;
 use partner_pick::Role;
