@@ -4,7 +4,7 @@ ghost use Rattle.base_specs.specs.Time.{IsReading};
 ghost use Rattle.edge_io.specs.LinkScript.{IsNoFailure};
 
 use dc_sign::{ServeEnd, ServeWhy, serve};
-use edge_io::{Addr, Datagram, Put, Receipt, ScriptClock, ScriptLink, Tried};
+use edge_io::{Addr, Datagram, Link, Put, Receipt, ScriptClock, ScriptLink, Tried};
 use key_book::Account;
 use std::alloc::{AllocError, Global};
 use std::process::Abort;
@@ -126,12 +126,13 @@ fn controller_run(rt: HostRuntime) -> Result<(), Fail> {
     Ok(())
 }
 
-// The calls of the link: a receive, a send that fails, a receive that fails, a receive, a send, a quiet receive.
+// The calls of the link: a receive, a send that fails, a receive, a send, a receive that fails, a quiet receive. A reply
+// that waited for the next receipt would fail at another call.
 #[test]
 fn failed_calls_of_a_run(rt: HostRuntime) -> Result<(), Fail> {
     let alloc = rt.alloc();
     let receipts = receipts_of(alloc, &[Came::Plain, Came::Signed])?;
-    let mut link = ScriptLink::new(alloc, receipts, [2, 3].to_vec(alloc)?, 8)?;
+    let mut link = ScriptLink::new(alloc, receipts, [2, 5].to_vec(alloc)?, 8)?;
     let mut clock = ScriptClock::new(alloc, readings_of(alloc, 2)?, Vec::new(alloc), 8)?;
     let end = serve(4, &mut link, &mut clock, &ACCOUNT);
     assert_eq!(rt;
@@ -155,12 +156,12 @@ fn failed_calls_of_a_run(rt: HostRuntime) -> Result<(), Fail> {
     Ok(())
 }
 
-// The first or the second reading of the second datagram fails.
+// The first or the second reading of the second datagram fails. The third one is not received.
 #[test]
 fn clock_faults_of_a_run(rt: HostRuntime) -> Result<(), Fail> {
     let alloc = rt.alloc();
     for fails in [3, 4] {
-        let receipts = receipts_of(alloc, &[Came::Signed, Came::Signed, Came::Nothing])?;
+        let receipts = receipts_of(alloc, &[Came::Signed, Came::Signed, Came::Plain])?;
         let mut link = ScriptLink::new(alloc, receipts, Vec::new(alloc), 8)?;
         let readings = readings_of(alloc, 2)?;
         let mut clock = ScriptClock::new(alloc, readings, [fails].to_vec(alloc)?, 8)?;
@@ -174,6 +175,10 @@ fn clock_faults_of_a_run(rt: HostRuntime) -> Result<(), Fail> {
             }
         );
         assert_eq!(rt; link.sends().len(), 1);
+        match link.recv() {
+            Receipt::Got(_, request) => assert_eq!(rt; request.as_slice().len(), 48),
+            _ => assert!(rt; false),
+        }
     }
     Ok(())
 }
