@@ -97,6 +97,11 @@ exact_from lines (Err (TwiceName n)) (Ok b) p q some = inl (ap answer_of (one_ve
 exact_from lines (Err (TwiceName n)) (Err (BadLine m)) p q some = inl (ap answer_of (one_verdict computer_text says_one lines (again n) (bad_line m) p q))
 exact_from lines (Err (TwiceName n)) (Err (TwiceName m)) p q some = inl (ap answer_of (one_verdict computer_text says_one lines (again n) (again m) p q))
 
+-- any two answers other than want of memory are one
+pub one_answer : (lines : List (List ℕ)) (answer other : Result (List Entry) DirFault) → IsAnswer lines answer → IsAnswer lines other
+    → answer ≢ Err NoMemory → other ≢ Err NoMemory → answer ≡ other
+one_answer lines answer other p q some more = elim (exact_from lines answer other p q more) [ inl same ↦ same | inr none ↦ absurd (some none) ]
+
 -- a line that is taken is read
 pub read_more : (lines : List (List ℕ)) (n : ℕ) (line : List ℕ) (left : List (List ℕ)) (old new : List Entry) (done : Unit {0})
     → HasRead computer_text lines n old (line ∷ left) → Takes (n + 1) line old new (Ok done) → HasRead computer_text lines (n + 1) new left

@@ -25,7 +25,8 @@ pub record SpellsNew (entry : Entry) (entries : List Entry) (line : List ℕ) : 
 -- beside the entries of the lines before it.
 abbrev pub Takes : ℕ → List ℕ → List Entry → List Entry → Result (Unit {0}) DirFault → Type 0
 Takes n line old new (Ok done) =
-    ((is_computer_line line ≡ false) × (new ≡ old)) ⊎ ((entry : Entry) × SpellsNew entry old line × (new ≡ old ++ entry ∷ []))
+    ((is_computer_line line ≡ false) × (new ≡ old))
+    ⊎ ((entry : Entry) × SpellsNew entry old line × (new ≡ old ++ entry ∷ []))
 Takes n line old new (Err (BadLine m)) = (m ≡ n) × SpellsNothing computer_text old line
 Takes n line old new (Err (TwiceName m)) = (m ≡ n) × SaysAgain computer_text old line
 Takes n line old new (Err NoMemory) = ⊤

@@ -36,4 +36,5 @@ pub record IsRanked (role : Role) (own : List ℕ) (entries : List Entry) (place
 -- the candidate before which no other stands
 pub record IsFirst (role : Role) (own : List ℕ) (entries : List Entry) (place : ℕ) : Type 0 where
   pub candidate : IsCandidateAt role own entries place
-  pub before : (other : ℕ) → IsCandidateAt role own entries other → other ≢ place → StandsBefore role entries place other
+  pub before : (other : ℕ) → IsCandidateAt role own entries other → other ≢ place
+      → StandsBefore role entries place other

@@ -25,7 +25,8 @@ pub struct Entry {
 /// What a computer is in its domain, which decides the queries that it asks.
 #[derive(Clone, Copy, Debug, PartialEq, Eq)]
 pub enum Role {
-    /// It asks for any controller of its own domain, in its site (1) and out of it (2).
+    /// It asks for any controller of its own domain, in its site (1) and out of it (2). These two queries are this
+    /// project's own; those of the other roles are the Windows Time service's.
     Member,
     /// It asks for the parent domain (1), for a reliable source of its own domain (2) and for its own
     /// domain's PDC emulator (3) in its site, and then for the same out of it (4, 5, 6).

@@ -7,15 +7,16 @@
 //!
 //! The crate stands on `edge_traits` (addresses), `text_grammar` (lines, names, addresses), `arrayvec` and
 //! `thiserror`. The layer above may rely on [`parse_directory`] giving exactly the entries of a text's computer
-//! lines or its first bad one, on [`rank`] giving the one list that `specs/Ranking.antt` calls ranked, and on
-//! [`best`] giving its first element without memory. Want of memory is the one answer that comes freely. The
-//! queries and the score are defined in `specs/Queries.antt`, the computer line in `specs/ComputerText.antt`, and
-//! what the reader of a text answers in `specs/Parsing.antt`.
+//! lines or its first bad one, of which a text has one at most ([`laws_of_directories`]), on [`rank`] giving the one
+//! list that `specs/Ranking.antt` calls ranked, and on [`best`] giving its first element without memory. Want of
+//! memory is the one answer that comes freely. The queries and the score are defined in `specs/Queries.antt`, the
+//! computer line in `specs/ComputerText.antt`, and what the reader of a text answers in `specs/Parsing.antt`.
 #![tactic(auto)]
 
 mod directory;
 mod entry;
 mod fault;
+mod laws;
 mod line;
 mod name;
 mod parse;
@@ -26,6 +27,7 @@ mod tests;
 pub use directory::{AddFault, Directory};
 pub use entry::{Entry, Role, score};
 pub use fault::{DirFault, NoMemory};
+pub use laws::laws_of_directories;
 pub use line::{COMPUTER, read_entry};
 pub use name::NameText;
 pub use parse::parse_directory;

@@ -19,7 +19,8 @@ impl Model for NameText {
 
     ghost view = { λ name. name.bytes.items };
 
-    ghost invariant = { λ name. (length name.bytes.items ≤ 63) × All (λ byte. byte < 128) name.bytes.items };
+    ghost invariant = { λ name. (length name.bytes.items ≤ 63)
+        × All (λ byte. byte < 128) name.bytes.items };
 }
 
 impl NameText {

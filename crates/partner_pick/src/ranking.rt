@@ -76,8 +76,8 @@ fn has_candidate(
     place: usize,
 ) -> bool
     requires { place < length directory.now }
-    ensures { IsTrue result
-        ↔ (IsCandidateAt role own.now directory.now place × (score_at directory.now place ≡ wanted)) }
+    ensures { IsTrue result ↔ (IsCandidateAt role own.now directory.now place
+        × (score_at directory.now place ≡ wanted)) }
 {
     let entry = directory.at(place);
     score(entry) == wanted && is_candidate(entry, role, own)
@@ -87,7 +87,11 @@ fn has_candidate(
 pub fn best(directory: &Directory, role: Role, own: &NameText) -> Option<usize>
     ensures found { IfSome result (IsFirst role own.now directory.now) }
     ensures none { IfNone result ((place : ℕ) → ¬ IsCandidateAt role own.now directory.now place) }
-    ensures first { (places : List ℕ) → IsRanked role own.now directory.now places → result ≡ slice_get places 0 }
+    ensures first { (places : List ℕ) → IsRanked role own.now directory.now places
+        → result ≡ slice_get places 0 }
+    // Any two ranked lists are one.
+    ensures one { (places others : List ℕ) → IsRanked role own.now directory.now places
+        → IsRanked role own.now directory.now others → others ≡ places }
 {
     let mut best = None;
     for place in 0..directory.len() {
