@@ -13,7 +13,7 @@ use Rattle.w32t_settings.specs.declared.settings.Settings.{Settings}
 use Rattle.w32t_settings.specs.Values.{AreSettings, IsBadWhole}
 use Rattle.w32t_settings.specs.Answer.{IsBadLine, IsAnswer}
 use Rattle.w32t_settings.proofs.Counting.{last_line}
-use Rattle.w32t_settings.proofs.Exact.{bad_or_said}
+use Rattle.w32t_settings.proofs.Exact.{bad_or_said, has_bad_line}
 use Rattle.w32t_settings.specs.Progress.{Holds, Takes}
 
 -- the first n lines are read, and what they said is kept
@@ -40,9 +40,10 @@ kept_more all n line left old new done k takes =
 
 -- a line that isn't kept is the least bad one
 pub bad_answer : (text : List ℕ) (n : ℕ) (line : List ℕ) (left : List (List ℕ)) (old new : Draft) (fault : SettingsFault)
-    → (k : HasKept (lines text) n (line ∷ left) old) → Takes (n + 1) line k.items new (Err fault) → IsAnswer text (Err fault)
-bad_answer text n line left old new (BadConfig m) k takes = inl (rw takes.0 (read_bad settings_text IsBadLine (lines text) n k.items line left k.read takes.1))
-bad_answer text n line left old new NoMemory k takes = tt
+    → length text ≤ 16777217 → (k : HasKept (lines text) n (line ∷ left) old) → Takes (n + 1) line k.items new (Err fault) → IsAnswer text (Err fault)
+bad_answer text n line left old new (BadConfig m) most k takes =
+    inl (has_bad_line text m most (rw takes.0 (read_bad settings_text IsBadLine (lines text) n k.items line left k.read takes.1)))
+bad_answer text n line left old new NoMemory most k takes = tt
 
 -- all lines are read: what they say is kept, and n is their number
 pub record KeptAll (text : List ℕ) (n : ℕ) (draft : Draft) : Type 0 where
@@ -67,7 +68,7 @@ long_answer text n draft most long k =
     inr (inl record {
       long = long;
       stands = all.number ∙ last_line text 16777216 (omega arith);
-      before = λ m earlier bad. bad_or_said text m all.items bad all.said;
+      before = λ m earlier bad. bad_or_said text m all.items most bad all.said;
     })
 
 -- a text that isn't, of good lines

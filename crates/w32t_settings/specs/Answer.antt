@@ -12,9 +12,10 @@ use Rattle.w32t_settings.specs.Values.{AreSettings, IsBadWhole}
 abbrev pub IsBadLine : List Item → List ℕ → Type 0
 IsBadLine earlier line = SpellsNothing settings_text earlier line ⊎ SaysAgain settings_text earlier line
 
--- line n has no form or repeats an earlier one, and the lines before it are good
+-- Line n has no form or repeats an earlier one, and the lines before it are good. No byte behind number 16,777,217 is
+-- looked at.
 abbrev pub HasBadLine : List ℕ → ℕ → Type 0
-HasBadLine text n = IsFirstBad settings_text IsBadLine (lines text) n
+HasBadLine text n = IsFirstBad settings_text IsBadLine (lines (take 16777217 text)) n
 
 -- The longest text has 16,777,216 bytes. Byte number 16,777,217 stands in line n: so many line feeds are before it, and
 -- one fewer. No line before n is bad.

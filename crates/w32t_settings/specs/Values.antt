@@ -74,7 +74,8 @@ number_in wanted (Name name) = None
 number_in wanted (RoleIs role) = None
 number_in wanted (Rid rid) = None
 number_in wanted (Auth kind) = None
-number_in wanted (NumberIs number value) = if bytes_eq (number_label number) (number_label wanted) then Some value else None
+number_in wanted (NumberIs number value) =
+    if bytes_eq (number_label number) (number_label wanted) then Some value else None
 
 -- the first of two values that is there
 abbrev pub first_of : {X : Type 0} → Option X → Option X → Option X

@@ -109,8 +109,10 @@ impl Draft {
     /// The settings that the lines say. None exactly where the text as a whole is bad.
     pub(crate) fn finish(self) -> Option<Settings>
         requires { AllFit self.settings.items }
-        ensures settings { (items : List Item) → Holds items self → IfSome result (AreSettings items) }
-        ensures none { (items : List Item) → Holds items self → IsNone result → IsBadWhole items }
+        ensures settings { (items : List Item) → Holds items self
+            → IfSome result (AreSettings items) }
+        ensures none { (items : List Item) → Holds items self
+            → IsNone result → IsBadWhole items }
     {
         let name = name_of(&self.settings)?;
         let role = role_of(&self.settings)?;

@@ -32,7 +32,8 @@ pub fn read_settings(alloc: Global, text: &[u8]) -> Result<Settings, SettingsFau
     ensures answer { IsAnswer text.now result }
     // What is true of the text is answered, unless there is no memory.
     ensures exact { (answer : Result Settings SettingsFault) → IsAnswer text.now answer
-        → answer ≢ Err SettingsFault.NoMemory → (result ≡ answer) ⊎ (result ≡ Err SettingsFault.NoMemory) }
+        → answer ≢ Err SettingsFault.NoMemory
+        → (result ≡ answer) ⊎ (result ≡ Err SettingsFault.NoMemory) }
 {
     let mut draft = Draft::new(alloc);
     let mut left = text;

@@ -22,7 +22,7 @@ pub struct Settings {
     pub kind: Kind,
     /// MaxPosPhaseCorrection, MaxNegPhaseCorrection, MaxAllowedPhaseOffset, MinPollInterval, MaxPollInterval.
     pub limits: Limits,
-    /// AnnounceFlags, 0 to 15.
+    /// AnnounceFlags, as the text gives it: 0 to 15.
     pub announce: u8,
     /// The accounts of the account lines.
     pub book: Book,

@@ -61,9 +61,13 @@ fn settings_refused(rt: HostRuntime) -> Result<(), Fail> {
             ("\n# Name=WS1\n\n", 4),
         ],
     )?;
-    let text =
-        b"Name=DC1\nRole=Pdc\nRid=1103\naccount 1103 000102030405060708090a0b0c0d0e0f\ncomputer DC1 10.0.0.1:123 S--E\n";
-    let settings = read(rt.alloc(), text)?.map_err(|_| "no settings")?;
+    let text = "Name=DC1
+Role=Pdc
+Rid=1103
+account 1103 000102030405060708090a0b0c0d0e0f
+computer DC1 10.0.0.1:123 S--E
+";
+    let settings = read(rt.alloc(), text.as_bytes())?.map_err(|_| "no settings")?;
     assert_eq!(rt; settings.name.as_slice(), b"DC1".as_slice());
     assert_eq!(rt; settings.role, Role::Pdc);
     assert_eq!(rt; settings.rid, 1103);
@@ -84,9 +88,11 @@ fn values_and_their_ranges(rt: HostRuntime) -> Result<(), Fail> {
             (b"MaxPosPhaseCorrection=4294967295", 0),
             (b"MaxPosPhaseCorrection=4294967296", 5),
             (b"MaxPosPhaseCorrection=01", 5),
+            (b"MaxNegPhaseCorrection=0", 0),
             (b"MaxNegPhaseCorrection=4294967295", 0),
             (b"MaxNegPhaseCorrection=4294967296", 5),
             (b"MaxNegPhaseCorrection=-1", 5),
+            (b"MaxAllowedPhaseOffset=0", 0),
             (b"MaxAllowedPhaseOffset=4294967295", 0),
             (b"MaxAllowedPhaseOffset=4294967296", 5),
             (b"MinPollInterval=0", 0),
@@ -98,6 +104,8 @@ fn values_and_their_ranges(rt: HostRuntime) -> Result<(), Fail> {
             (b"MaxPollInterval=18", 5),
             (b"MaxPollInterval=10", 0),
             (b"MaxPollInterval=9", 6),
+            (b"MinPollInterval=17\nMaxPollInterval=17", 0),
+            (b"MinPollInterval=0\nMaxPollInterval=0", 0),
             (b"AnnounceFlags=0", 0),
             (b"AnnounceFlags=15", 0),
             (b"AnnounceFlags=16", 5),
@@ -121,9 +129,14 @@ fn forms_of_a_line(rt: HostRuntime) -> Result<(), Fail> {
             (b"Flags=1", 5),
             (b"account 5 00000000000000000000000000000000", 0),
             (b"account 5 0000000000000000000000000000000", 5),
+            (b"account 5 000000000000000000000000000000000", 5),
+            (b"account 4294967295 00000000000000000000000000000000", 0),
+            (b"account 4294967296 00000000000000000000000000000000", 5),
             (b"account", 5),
             (b"computer DC1 10.0.0.1:123 S---", 0),
             (b"computer DC1 10.0.0.1:0 S---", 5),
+            (b"computer DC1 10.0.0.1:65535 S---", 0),
+            (b"computer DC1 10.0.0.1:65536 S---", 5),
             (b"computer", 5),
             (b" ", 5),
             (b"\t", 5),
@@ -164,7 +177,7 @@ fn repeats_and_first_faults(rt: HostRuntime) -> Result<(), Fail> {
 }
 
 #[test]
-fn texts_as_a_whole(rt: HostRuntime) -> Result<(), Fail> {
+fn what_is_required(rt: HostRuntime) -> Result<(), Fail> {
     expect_lines(
         &rt,
         &[
@@ -185,6 +198,15 @@ fn texts_as_a_whole(rt: HostRuntime) -> Result<(), Fail> {
                 5,
             ),
             ("Name=A\nRole=Pdc\nRid=5\n", 4),
+        ],
+    )
+}
+
+#[test]
+fn texts_as_a_whole(rt: HostRuntime) -> Result<(), Fail> {
+    expect_lines(
+        &rt,
+        &[
             (
                 "Name=A\nRole=Pdc\nRid=2147483647\naccount 2147483647 00000000000000000000000000000000\n",
                 0,
@@ -194,7 +216,7 @@ fn texts_as_a_whole(rt: HostRuntime) -> Result<(), Fail> {
                 5,
             ),
             (
-                "Auth=Extended\nName=A\nRole=Pdc\nRid=4294967295\naccount 4294967295 00000000000000000000000000000000\n",
+                "Auth=Extended\nName=A\nRole=Pdc\nRid=4294967295\naccount 4294967295 00000000000000000000000000000000",
                 0,
             ),
             ("Rid=4294967296\n", 1),
@@ -273,5 +295,11 @@ fn longest_text(rt: HostRuntime) -> Result<(), Fail> {
     // An earlier bad line is named before it.
     text[0] = b'X';
     assert_eq!(rt; bad_line(alloc, &text)?, 1);
+    // The byte may stand in a line of its own.
+    assert!(rt; text.len() == 16_777_217);
+    text[0] = b'N';
+    text[16_777_215] = b'\n';
+    text[16_777_216] = b'#';
+    assert_eq!(rt; bad_line(alloc, &text)?, 6);
     Ok(())
 }

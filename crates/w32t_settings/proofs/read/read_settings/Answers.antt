@@ -15,13 +15,21 @@ loop-line-preserved c =
       few = omega (arith, c.in-Some.ensures.shorter, c.loop-line.invariant.few);
     }
 
+pub returns-in_err-take-clause-answer : goal.returns-in_err-take-clause-answer
+returns-in_err-take-clause-answer c =
+    let kept = rw c.in-Some.ensures.line at c.loop-line.invariant.kept in
+    let bad = bad_answer c.args.text.now c.loop-line.number c.in-Some.line.now (lines c.in-Some.rest.now) c.loop-line.draft c.take.new.self _ c.requires kept (c.in_err-take.ensures kept.items kept.holds) in
+    let err = err_from_is_err_and c.from_residual.result c.from_residual.ensures.1 in
+    let same : c.from_residual.result ≡ Err c.in_err-take.field-0.0 = err.1 ∙ ap Err err.2 in
+    rw same bad
+
 pub returns-in_err-take-clause-exact : goal.returns-in_err-take-clause-exact
 returns-in_err-take-clause-exact c answer true_of some =
     let kept = rw c.in-Some.ensures.line at c.loop-line.invariant.kept in
-    let bad = bad_answer c.args.text.now c.loop-line.number c.in-Some.line.now (lines c.in-Some.rest.now) c.loop-line.draft c.take.new.self _ kept (c.in_err-take.ensures kept.items kept.holds) in
+    let bad = bad_answer c.args.text.now c.loop-line.number c.in-Some.line.now (lines c.in-Some.rest.now) c.loop-line.draft c.take.new.self _ c.requires kept (c.in_err-take.ensures kept.items kept.holds) in
     let err = err_from_is_err_and c.from_residual.result c.from_residual.ensures.1 in
     let same : c.from_residual.result ≡ Err c.in_err-take.field-0.0 = err.1 ∙ ap Err err.2 in
-    exact_from c.args.text.now c.from_residual.result answer c.requires (rw same bad) true_of some
+    exact_from c.args.text.now c.from_residual.result answer (rw same bad) true_of some
 
 pub returns-then-text-gt-LONGEST-clause-answer : goal.returns-then-text-gt-LONGEST-clause-answer
 returns-then-text-gt-LONGEST-clause-answer c =
@@ -32,7 +40,7 @@ pub returns-then-text-gt-LONGEST-clause-exact : goal.returns-then-text-gt-LONGES
 returns-then-text-gt-LONGEST-clause-exact c answer true_of some =
     let empty : lines c.loop-line.left.now ≡ [] = ap lines (c.in_default.ensures.none.0 refl) in
     let long = long_answer c.args.text.now c.loop-line.number c.loop-line.draft c.requires c.if-text-gt-LONGEST.true (rw empty at c.loop-line.invariant.kept) in
-    exact_from c.args.text.now (Err (BadConfig c.loop-line.number)) answer c.requires long true_of some
+    exact_from c.args.text.now (Err (BadConfig c.loop-line.number)) answer long true_of some
 
 pub finish-requires : goal.finish-requires
 finish-requires c =
@@ -52,4 +60,4 @@ returns-clause-exact c answer true_of some =
     let empty : lines c.loop-line.left.now ≡ [] = ap lines (c.in_default.ensures.none.0 refl) in
     let all = kept_all c.args.text.now c.loop-line.number c.loop-line.draft (rw empty at c.loop-line.invariant.kept) in
     let end = end_answer c.args.text.now c.loop-line.number c.loop-line.draft all c.if-text-gt-LONGEST.false c.finish.result (c.finish.ensures.settings all.items all.holds) (c.finish.ensures.none all.items all.holds) in
-    exact_from c.args.text.now c.ok_or.result answer c.requires (rw c.ok_or.ensures.value end) true_of some
+    exact_from c.args.text.now c.ok_or.result answer (rw c.ok_or.ensures.value end) true_of some
