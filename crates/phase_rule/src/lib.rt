@@ -4,7 +4,7 @@
 //! the settings say. After an accepted offset the poll exponent rises while the clock is steady, and falls
 //! back to its least value where it isn't.
 //!
-//! The crate stands on nothing, reads no clock and refuses nothing. The layer above may rely on the two
+//! The crate stands on nothing, reads no clock and has no errors. The layer above may rely on the two
 //! functions being the definitions `judged` and `next_poll` of `specs/Rule.antt`, which speak of seconds
 //! and ticks of 100 ns as integers.
 #![tactic(auto)]

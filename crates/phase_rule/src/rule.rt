@@ -31,11 +31,13 @@ pub fn judge(offset: i64, limits: &Limits) -> Judged
     ensures judged { result ≡ judged limits.now offset }
 
     // Too big exactly past the limit of its direction.
-    ensures ahead { pos 0 <ℤ offset → (result ≡ Judged.TooBig) ↔ IsPast limits.now.max_pos (unsigned_abs offset) }
-    ensures behind { offset <ℤ pos 0 → (result ≡ Judged.TooBig) ↔ IsPast limits.now.max_neg (unsigned_abs offset) }
+    ensures ahead { pos 0 <ℤ offset
+        → (result ≡ Judged.TooBig) ↔ IsPast limits.now.max_pos (unsigned_abs offset) }
+    ensures behind { offset <ℤ pos 0
+        → (result ≡ Judged.TooBig) ↔ IsPast limits.now.max_neg (unsigned_abs offset) }
     ensures none { offset ≡ pos 0 → result ≡ Judged.Slew }
 
-    // What is moved slowly is exactly what is allowed to be.
+    // A slew is at most the greatest amount for one, and a step is above it.
     ensures slew { result ≡ Judged.Slew → unsigned_abs offset ≤ ticks_of limits.now.max_allowed }
     ensures step { result ≡ Judged.Step → ticks_of limits.now.max_allowed < unsigned_abs offset }
 {

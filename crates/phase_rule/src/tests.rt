@@ -37,7 +37,7 @@ fn expect_judged(rt: &impl Abort, limits: Limits, cases: &[(i64, Judged)]) {
 }
 
 // Two days either way, and five minutes for a slew.
-fn judged_by_a_member(rt: &impl Abort) {
+fn judged_by_a_controller(rt: &impl Abort) {
     let cases = [
         (0, Judged::Slew),
         (3_000_000_000, Judged::Slew),
@@ -131,7 +131,7 @@ fn polls_at_their_limits(rt: &impl Abort) {
 
 #[test]
 fn limits_at_their_edges(rt: HostRuntime) {
-    judged_by_a_member(&rt);
+    judged_by_a_controller(&rt);
     judged_without_a_limit_ahead(&rt);
     judged_without_a_limit_behind(&rt);
     judged_by_the_greatest_limit(&rt);

@@ -55,7 +55,8 @@ pub record SaysAgain {A : Type 0} (form : TextForm A) (earlier : List A) (line :
   pub again : Any (λ x. form.AreSame x value) earlier
 
 -- Line n is bad in this way, beside what the lines before it say, and they are good.
-pub record IsFirstBad {A : Type 0} (form : TextForm A) (IsBad : List A → List ℕ → Type 0) (lines : List (List ℕ)) (n : ℕ) : Type 0 where
+pub record IsFirstBad {A : Type 0} (form : TextForm A) (IsBad : List A → List ℕ → Type 0)
+    (lines : List (List ℕ)) (n : ℕ) : Type 0 where
   pub before : List (List ℕ)
   pub line : List ℕ
   pub after : List (List ℕ)

@@ -55,7 +55,8 @@ pub fn cut(text: &[u8], byte: u8) -> Option<(&[u8], &[u8])>
 /// The first place of the byte.
 fn place_of(text: &[u8], byte: u8) -> Option<usize>
     ensures within { IfSome result (λ at. at < length text.now) }
-    ensures parts { IfSome result (λ at. text.now ≡ take at text.now ++ byte ∷ drop (at + 1) text.now) }
+    ensures parts { IfSome result (λ at. text.now
+        ≡ take at text.now ++ byte ∷ drop (at + 1) text.now) }
     ensures first { IfSome result (λ at. HasNo byte (take at text.now)) }
     ensures none { IfNone result (HasNo byte text.now) }
 {
