@@ -1,6 +1,7 @@
 //! What a bind offers.
 ghost use Rattle.std.specs.Prelude.{◌≡◌, ◌*◌, ◌<◌, ◌≤◌, ◌↔◌, IfSome, IsSome, IsTrue, Some, length, slice_get, drop};
-ghost use Rattle.rpc_pdu.specs.Bind.{AreContexts, HasNdr, IsBind, IsContext, bind_need, context_at, context_len, interface_bytes};
+ghost use Rattle.rpc_pdu.specs.Bind.{AreContexts, HasNdr, IsBind, IsContext};
+ghost use Rattle.rpc_pdu.specs.Bind.{bind_need, context_at, context_len, interface_bytes};
 ghost use Rattle.rpc_pdu.specs.Header.{bind_kind};
 ghost use Rattle.rpc_pdu.specs.Pdu.{PduFits};
 

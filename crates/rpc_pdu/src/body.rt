@@ -20,7 +20,8 @@ impl Model for BodyBytes {
 
     ghost view = { λ b. b.bytes.items };
 
-    ghost invariant = { λ b. (length b.bytes.items ≤ 5824) × All (λ byte. byte < 256) b.bytes.items };
+    ghost invariant = { λ b. (length b.bytes.items ≤ 5824)
+        × All (λ byte. byte < 256) b.bytes.items };
 }
 
 impl BodyBytes {

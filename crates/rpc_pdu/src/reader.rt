@@ -1,5 +1,6 @@
 //! Reading PDUs one after the other.
-ghost use Rattle.std.specs.Prelude.{◌≡◌, ◌≢◌, ◌+◌, ◌<◌, ◌^◌, ℕ, true, [], List, Option, None, Err, IfOk, IfSome, length};
+ghost use Rattle.std.specs.Prelude.{◌≡◌, ◌≢◌, ◌+◌, ◌<◌, ◌^◌, ℕ, true, [], List};
+ghost use Rattle.std.specs.Prelude.{Option, None, Err, IfOk, IfSome, length};
 ghost use Rattle.edge_traits.specs.Wire.{Entry};
 ghost use Rattle.rpc_pdu.specs.declared.fault.PduFault.{PduFault};
 ghost use Rattle.rpc_pdu.specs.Header.{header_flaw, header_of};

@@ -10,8 +10,8 @@ use std::test::Fail;
 /// `struct.pack("<HHIB3x", 5840, 5840, 0, 3)`, then per context `struct.pack("<HBB", id, 1, 0)`, the interface's
 /// `uuid.UUID(..).bytes_le`, `struct.pack("<HH", 4, 1)` and the syntax: NDR's `bytes_le` and version 2, or 16 bytes 11
 /// or 22 and version 1. The request's is `struct.pack("<IHHII", 8, 0, 0, 1, 2)`, the first response's
-/// `struct.pack("<IHHI", 4, 0, 0, 0)`, the second's `struct.pack("<IHH4I8sI", 28, 0, 0, 0x20000, 4, 0, 4, name, 0)` with
-/// `name = "DC1\0".encode("utf-16le")`, and the fault's `struct.pack("<IHHII", 0, 0, 0, 0x1C010002, 0)`.
+/// `struct.pack("<IHHI", 4, 0, 0, 0)`, the fault's `struct.pack("<IHHII", 0, 0, 0, 0x1C010002, 0)`, and the second
+/// response's `struct.pack("<IHH4I8sI", 28, 0, 0, 0x20000, 4, 0, 4, "DC1\0".encode("utf-16le"), 0)`.
 const SESSION: &[u8; 304] =
     b"\x05\x00\x0B\x03\x10\x00\x00\x00\xA0\x00\x00\x00\x01\x00\x00\x00\xD0\x16\xD0\x16\
 \x00\x00\x00\x00\x03\x00\x00\x00\x00\x00\x01\x00\x84\xD8\xB6\x8F\x88\x23\xD0\x11\
