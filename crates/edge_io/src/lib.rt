@@ -11,7 +11,8 @@
 //!
 //! An adapter (`ReaderSource`, `WriterSink`, `RealClock`, `UdpLink`, `RandomFile`) tells nothing, and says what it
 //! makes of what the reader, the writer or the machine's clock gave. What these give is trusted, and what a socket
-//! gives and takes. `file_source` and `random_file` open files. `NullSink` takes all and keeps nothing.
+//! gives and takes. `file_source` and `random_file` open files. What can't be opened is a `ClosedSource`, a link
+//! without a socket or words without a file: each call fails. `NullSink` takes all and keeps nothing.
 //!
 //! The definitions stand in `specs/`: a file of its own for each object, `Calls`, `Pieces` and `SessionScript` for
 //! their parts, `Held`, `CorrectedClock` and `Correction` for the adapters. Those of the traits are handed on.
@@ -19,6 +20,7 @@
 
 mod calls;
 mod clock;
+mod closed;
 mod correction;
 mod entropy;
 mod link;
@@ -36,6 +38,7 @@ mod wire;
 mod writer;
 
 pub use clock::ScriptClock;
+pub use closed::ClosedSource;
 pub use edge_traits::{
     Addr, Clock, DATAGRAM_LEN, Datagram, Drawn, Entropy, Filled, Link, Move, Opened, Put, Reading,
     Receipt, Sink, Source, Take, Tried, Wire, fill_front,

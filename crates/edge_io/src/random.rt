@@ -14,7 +14,7 @@ use std::rt::Files;
 /// bytes. A read that a signal cuts short is made again, and is no fault.
 #[derive(Drop)]
 pub struct RandomFile<F: Read> {
-    source: ReaderSource<F>,
+    source: Option<ReaderSource<F>>,
     faults: u64,
 }
 
@@ -25,7 +25,18 @@ impl<F: Read> RandomFile<F> {
         ensures faults { ⟦<RandomFile<F> as Entropy>⟧.faults result ≡ 0 }
     {
         RandomFile {
-            source: ReaderSource::new(reader),
+            source: Some(ReaderSource::new(reader)),
+            faults: 0,
+        }
+    }
+
+    /// Words of no file: each draw fails.
+    pub fn without_file() -> RandomFile<F>
+        ensures told { ⟦<RandomFile<F> as Entropy>⟧.words result ≡ None }
+        ensures faults { ⟦<RandomFile<F> as Entropy>⟧.faults result ≡ 0 }
+    {
+        RandomFile {
+            source: None,
             faults: 0,
         }
     }
@@ -43,7 +54,9 @@ impl<F: Read> Entropy for RandomFile<F> {
         ensures cause { DrawnCounts result self.old.faults self.new.faults }
     {
         let mut bytes = [0; 4];
-        if fill_front(&mut self.source, &mut bytes) == Filled::Bytes(4) {
+        if let Some(source) = &mut self.source
+            && fill_front(source, &mut bytes) == Filled::Bytes(4)
+        {
             return Drawn::Word(u32::from_le_bytes(bytes));
         }
         self.faults = self.faults.saturating_add(1);
@@ -76,6 +89,9 @@ mod tests {
         assert_eq!(rt; entropy.faults, 1);
         let mut machine = random_file(&rt)?;
         assert!(rt; matches!(machine.word(), Drawn::Word(_)));
+        let mut none = RandomFile::<&[u8]>::without_file();
+        assert_eq!(rt; none.word(), Drawn::Failed);
+        assert_eq!(rt; none.faults, 1);
         Ok(())
     }
 

@@ -17,10 +17,10 @@ const WAIT_SECONDS: u64 = 1;
 /// A socket on one port of all IPv4 addresses of the machine. It tells nothing, and is connected to no one.
 ///
 /// A receive waits up to one second, and is quiet then. Of a longer datagram the first 256 bytes are taken. A call
-/// that a signal cuts short is made again, and is no fault.
+/// that a signal cuts short is made again, and is no fault. Without a socket each call fails.
 #[derive(Drop)]
 pub struct UdpLink {
-    socket: UdpSocket,
+    socket: Option<UdpSocket>,
     faults: u64,
 }
 
@@ -32,12 +32,29 @@ impl UdpLink {
     {
         let socket = UdpSocket::bind(net, SocketAddrV4::new(Ipv4Addr::UNSPECIFIED, port))?;
         socket.set_read_timeout(Some(Duration::from_secs(WAIT_SECONDS)))?;
-        Ok(UdpLink { socket, faults: 0 })
+        Ok(UdpLink {
+            socket: Some(socket),
+            faults: 0,
+        })
+    }
+
+    /// A link without a socket, each call of which fails: it stands for a port that can't be had.
+    pub fn without_socket() -> UdpLink
+        ensures told { ⟦<UdpLink as Link>⟧.told result ≡ None }
+        ensures faults { ⟦<UdpLink as Link>⟧.faults result ≡ 0 }
+    {
+        UdpLink {
+            socket: None,
+            faults: 0,
+        }
     }
 
     /// The port that the link is on.
     pub fn port(&self) -> io::Result<u16> {
-        Ok(self.socket.local_addr()?.port())
+        match &self.socket {
+            Some(socket) => Ok(socket.local_addr()?.port()),
+            None => Err(io::Error::from(ErrorKind::NotConnected)),
+        }
     }
 }
 
@@ -54,13 +71,13 @@ impl Link for UdpLink {
         ensures cause { PutCounts result self.old.faults self.new.faults }
     {
         let sent = Datagram::from_slice(bytes);
-        match send_again(&self.socket, sent.as_slice(), socket_addr_of(to)) {
-            Ok(count) if count == sent.as_slice().len() => Put::Done,
-            _ => {
-                self.faults = self.faults.saturating_add(1);
-                Put::Failed
-            }
+        if let Some(socket) = &self.socket
+            && send_whole(socket, sent.as_slice(), socket_addr_of(to))
+        {
+            return Put::Done;
         }
+        self.faults = self.faults.saturating_add(1);
+        Put::Failed
     }
 
     fn recv(&mut self) -> Receipt
@@ -68,17 +85,33 @@ impl Link for UdpLink {
         ensures gives { GaveReceipts None None (result ∷ []) }
         ensures cause { ReceiptCounts result self.old.faults self.new.faults }
     {
-        let mut buf = [0; DATAGRAM_LEN];
-        match recv_again(&self.socket, &mut buf) {
-            Ok((count, SocketAddr::V4(from))) => {
-                Receipt::got(addr_of(&from), Datagram::from_slice(&buf[..count]))
-            }
-            Err(error) if is_time_over(&error) => Receipt::Quiet,
-            _ => {
-                self.faults = self.faults.saturating_add(1);
-                Receipt::Failed
-            }
+        let receipt = match &self.socket {
+            Some(socket) => recv_front(socket),
+            None => Receipt::Failed,
+        };
+        if let Receipt::Failed = &receipt {
+            self.faults = self.faults.saturating_add(1);
         }
+        receipt
+    }
+}
+
+/// Sends the bytes as one datagram, and says whether all of them went.
+fn send_whole(socket: &UdpSocket, bytes: &[u8], to: SocketAddrV4) -> bool {
+    matches!(send_again(socket, bytes, to), Ok(count) if count == bytes.len())
+}
+
+/// What the socket gives next: the front of a datagram, or nothing within the time that it waits.
+fn recv_front(socket: &UdpSocket) -> Receipt
+    ensures { ReceiptFits result }
+{
+    let mut buf = [0; DATAGRAM_LEN];
+    match recv_again(socket, &mut buf) {
+        Ok((count, SocketAddr::V4(from))) => {
+            Receipt::got(addr_of(&from), Datagram::from_slice(&buf[..count]))
+        }
+        Err(error) if is_time_over(&error) => Receipt::Quiet,
+        _ => Receipt::Failed,
     }
 }
 
@@ -155,7 +188,9 @@ mod tests {
         }
         // A link sends 256 bytes at most, and its socket any number.
         let addr = SocketAddrV4::new(Ipv4Addr::LOCALHOST, to);
-        assert_eq!(rt; near.socket.send_to(&[7; 300], addr)?, 300);
+        if let Some(socket) = &near.socket {
+            assert_eq!(rt; socket.send_to(&[7; 300], addr)?, 300);
+        }
         for len in [0, 3, 256, 256, 256] {
             let Receipt::Got(sender, bytes) = far.recv() else {
                 assert!(rt; false, "nothing came");
@@ -168,5 +203,18 @@ mod tests {
         assert_eq!(rt; near.send(Addr { ip, port: 0 }, b"x"), Put::Failed);
         assert_eq!(rt; (near.faults, far.faults), (1, 0));
         Ok(())
+    }
+
+    #[test]
+    fn calls_without_a_socket(rt: HostRuntime) {
+        let mut link = UdpLink::without_socket();
+        let to = Addr {
+            ip: LOCALHOST,
+            port: 9,
+        };
+        assert!(rt; link.port().is_err());
+        assert_eq!(rt; link.send(to, b"abc"), Put::Failed);
+        assert!(rt; matches!(link.recv(), Receipt::Failed));
+        assert_eq!(rt; link.faults, 2);
     }
 }
