@@ -1,5 +1,5 @@
 -- What a call does to a reader, from what it took and found.
-use Rattle.std.proofs.Common.{◌≡◌, ℕ, ◌+◌, ◌<◌, ◌≤◌, Bool, false, List, [], ◌++◌, length, Option, Some, Ok, Err, sym, ◌∙◌, ap, arith, length-append, subst}
+use Rattle.std.proofs.Common.{◌≡◌, ℕ, ◌+◌, ◌<◌, ◌≤◌, Bool, true, false, List, [], ◌++◌, length, Option, Some, Ok, Err, sym, ◌∙◌, ap, arith, length-append, subst}
 use Rattle.std.proofs.lemmas.Bool.{lt-ltb, le-ltb, cond-true, cond-false}
 use Rattle.edge_traits.specs.Wire.{Entry, WireTook}
 use Rattle.rpc_pdu.specs.declared.fault.Flaw.{Flaw}
@@ -38,10 +38,10 @@ next_torn place taken old is_open told now at few some took closed ended =
 
 -- a read failed in the header
 pub next_failed : (taken : List ℕ) (old : Reader) (is_open : Bool) (told now : Option (List Entry))
-    → length taken < 16 → WireFailed taken told now → (is_open ≡ false → taken ≡ [])
+    → length taken < 16 → WireFailed taken told now → (is_open ≡ false → taken ≡ []) → is_open ≡ true
     → Nexts (Err fault.ReadFault) old (record { alive = false; place = old.place; last_call = old.last_call }) is_open told now
-next_failed taken old is_open told now few failed closed = record {
-  takes = record { taken = taken; took = failed; closed = closed; shows = flaw_cut taken few };
+next_failed taken old is_open told now few failed closed opened = record {
+  takes = record { taken = taken; took = failed; closed = closed; shows = (flaw_cut taken few, opened) };
   reader = ap (λ (c : Option ℕ). record old { alive = false; last_call = c }) (sym (called_before taken old.last_call few));
 }
 

@@ -89,17 +89,27 @@ told_open (Err wrong) old new told now earlier session nexts is not_read =
     let s = shown wrong old.place t.taken true now other t.shows in
     sym (ap (first_pdu old.place) b.cut ∙ fault_of_all old.place t.taken b.after.left wrong true now s (λ ended. nothing_left true earlier b.after now refl b.told ended))
 
+open_not_closed : (is_open : Bool) → is_open ≡ true → is_open ≡ false → ⊥
+open_not_closed is_open opened closed = cc
+
 -- where no session is open, there is nothing to read
-told_closed :
-    (answer : Result (Option Pdu) PduFault) (old new : Reader) (told now : Option (List Entry))
-    → Nexts answer old new false told now → (answer ≡ Err fault.ReadFault → ⊥) → answer ≡ first_pdu old.place []
-told_closed (Ok (Some pdu)) old new told now nexts not_read =
-    let t = nexts.takes in absurd (omega (arith, ap length (t.closed refl), t.shows.0))
-told_closed (Ok None) old new told now nexts not_read = sym (first_none old.place)
-told_closed (Err wrong) old new told now nexts not_read =
-    let t = nexts.takes in
-    let s = shown wrong old.place t.taken false now (λ same. not_read (ap Err same)) t.shows in
-    sym s.first ∙ ap (first_pdu old.place) (t.closed refl)
+pub none_closed :
+    (answer : Result (Option Pdu) PduFault) (old new : Reader) (is_open : Bool) (told now : Option (List Entry))
+    → Nexts answer old new is_open told now → is_open ≡ false → answer ≡ Ok None
+none_closed (Ok (Some pdu)) old new is_open told now nexts closed =
+    let t = nexts.takes in absurd (omega (arith, ap length (t.closed closed), t.shows.0))
+none_closed (Ok None) old new is_open told now nexts closed = refl
+none_closed (Err wrong) old new is_open told now nexts closed =
+    elim (read_fault_or_not wrong) [
+      | inl same ↦
+          let t = nexts.takes in
+          let shows = subst (λ (w : PduFault). Shows (Err w) old.place t.taken is_open now) same t.shows in
+          absurd (open_not_closed is_open shows.1 closed)
+      | inr other ↦
+          let t = nexts.takes in
+          let s = shown wrong old.place t.taken is_open now other t.shows in
+          sym s.first ∙ ap (first_pdu old.place) (t.closed closed) ∙ first_none old.place
+    ]
 
 pub told_by :
     (answer : Result (Option Pdu) PduFault) (old new : Reader) (is_open : Bool) (told now : Option (List Entry)) (bytes : List ℕ)
@@ -107,7 +117,7 @@ pub told_by :
 told_by answer old new true told now bytes nexts leaves not_read =
     told_open answer old new told now leaves.0 leaves.1 nexts leaves.2 not_read ∙ ap (first_pdu old.place) leaves.3
 told_by answer old new false told now bytes nexts leaves not_read =
-    told_closed answer old new told now nexts not_read ∙ ap (first_pdu old.place) (sym leaves)
+    none_closed answer old new false told now nexts refl ∙ sym (first_none old.place) ∙ ap (first_pdu old.place) (sym leaves)
 
 -- a wire that doesn't tell doesn't begin to
 silent : (taken : List ℕ) (now : Option (List Entry)) → WireTook taken None now → now ≡ None

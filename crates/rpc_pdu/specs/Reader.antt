@@ -39,7 +39,7 @@ pub record ShowsHeader (place : ℕ) (taken : List ℕ) (wrong : PduFault) : Typ
 
 -- What the bytes taken show of the PDU that begins at this place: they are its bytes and no more, or those of its
 -- header where that is at fault. Where none were taken, or the PDU is torn, nothing is left behind them. Where a read
--- failed they aren't a whole PDU yet, nor at fault.
+-- failed, of an open session, they aren't a whole PDU yet, nor at fault.
 abbrev pub Shows : Result (Option Pdu) PduFault → ℕ → List ℕ → Bool → Option (List Entry) → Type 0
 Shows (Ok (Some pdu)) place taken is_open now = (length taken ≡ pdu_len pdu) × (first_pdu place taken ≡ Ok (Some pdu))
 Shows (Ok None) place taken is_open now = (taken ≡ []) × IsAtEnd is_open now
@@ -53,7 +53,7 @@ Shows (Err (fault.BadBody at)) place taken is_open now =
     (length taken ≡ (header_of taken).fragment_len) × (first_pdu place taken ≡ Err (fault.BadBody at))
 Shows (Err (fault.Torn at)) place taken is_open now =
     (first_pdu place taken ≡ Err (fault.Torn at)) × IsAtEnd is_open now
-Shows (Err fault.ReadFault) place taken is_open now = pdu_flaw taken ≡ Some Torn
+Shows (Err fault.ReadFault) place taken is_open now = (pdu_flaw taken ≡ Some Torn) × (is_open ≡ true)
 
 -- What a call takes and finds, when these bytes of the PDU that begins at this place have been taken before. Where no
 -- session is open nothing is taken.

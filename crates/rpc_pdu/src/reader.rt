@@ -1,6 +1,6 @@
 //! Reading PDUs one after the other.
-ghost use Rattle.std.specs.Prelude.{◌≡◌, ◌≢◌, ◌+◌, ◌<◌, ◌^◌, ℕ, true, [], List};
-ghost use Rattle.std.specs.Prelude.{Option, None, Err, IfOk, IfSome, length};
+ghost use Rattle.std.specs.Prelude.{◌≡◌, ◌≢◌, ◌+◌, ◌<◌, ◌^◌, ℕ, true, false, [], List};
+ghost use Rattle.std.specs.Prelude.{Option, None, Ok, Err, IfOk, IfSome, is_ok, length};
 ghost use Rattle.edge_traits.specs.Wire.{Entry};
 ghost use Rattle.rpc_pdu.specs.declared.fault.PduFault.{PduFault};
 ghost use Rattle.rpc_pdu.specs.Header.{header_flaw, header_of};
@@ -69,8 +69,8 @@ impl PduReader {
         self.last_call
     }
 
-    /// The next PDU, or None exactly where the session ended between two PDUs. No other session is opened, and nothing
-    /// is written.
+    /// The next PDU, or None exactly where the session ended between two PDUs, or none is open. No other session is
+    /// opened, and nothing is written.
     ///
     /// The 16 bytes of the header are taken and judged, and then the rest of the PDU, no byte behind it. A fault other
     /// than `ReadFault` is the first of the list that applies; where it is one of the header, no byte behind the header
@@ -82,8 +82,10 @@ impl PduReader {
         ensures next { Nexts result self.old self.new
             (W.is_open wire.old) (W.told wire.old) (W.told wire.new) }
         ensures fits { IfOk result (λ next. IfSome next PduFits) }
+        ensures lives { self.new.alive ≡ is_ok result }
         ensures cause { NextCounts result (W.faults wire.old) (W.faults wire.new) }
         ensures sessions { OpensNone (W.told wire.old) (W.told wire.new) }
+        ensures no_session { W.is_open wire.old ≡ false → result ≡ Ok None }
         ensures open { W.is_open wire.new ≡ W.is_open wire.old }
         ensures writes { W.write_faults wire.new ≡ W.write_faults wire.old }
 

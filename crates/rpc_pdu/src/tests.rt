@@ -277,6 +277,46 @@ fn first_fault_of_a_header(rt: HostRuntime) {
     }
 }
 
+/// The header of a request of 18 bytes with two of its bytes changed, each at its place.
+fn header_with(changes: [(usize, u8); 2]) -> [u8; 16] {
+    let mut header = *b"\x05\0\0\x03\x10\0\0\0\x12\0\0\0\x09\0\0\0";
+    for (place, byte) in changes {
+        if let Some(changed) = header.get_mut(place) {
+            *changed = byte;
+        }
+    }
+    header
+}
+
+#[test]
+fn each_fault_before_each_later_one(rt: HostRuntime) {
+    // A byte of the header that is changed, and the fault, in the order of the list.
+    let faults = [
+        (1, 0x01, PduFault::BadVersion(32)),
+        (2, 0x01, PduFault::BadType(32)),
+        (3, 0x01, PduFault::BadFragment(32)),
+        (4, 0x00, PduFault::BadDrep(32)),
+        (9, 0x17, PduFault::BadLength(32)),
+        (10, 0x01, PduFault::BadAuth(32)),
+    ];
+    for (order, (place, byte, fault)) in faults.into_iter().enumerate() {
+        for (later, (other_place, other_byte, _)) in faults.into_iter().enumerate() {
+            if later < order {
+                continue;
+            }
+            let header = header_with([(place, byte), (other_place, other_byte)]);
+            check_header(&rt, &header[..15], PduFault::Torn(32), 47);
+            // Behind the header the session ends, or a body stands that is too short for a request.
+            for behind in 0..=2 {
+                let mut bytes: ArrayVec<u8, 18> = ArrayVec::new();
+                assert!(rt; bytes.try_extend_from_slice(&header).is_ok());
+                assert!(rt; bytes.try_extend_from_slice(&[0; 2][..behind]).is_ok());
+                check_header(&rt, bytes.as_slice(), fault, 48);
+            }
+        }
+    }
+}
+
 #[test]
 fn ends_of_a_session_and_short_bodies(rt: HostRuntime) {
     // The bytes, their fault, and how many are taken. Numbers are least significant byte first: 0x2010 is above the

@@ -29,7 +29,7 @@ returns-in-Failed-clause-rest g c head sixteen is =
       taken = failed.0;
       took = failed.2;
       closed = λ closed. absurd cc;
-      shows = torn_behind head failed.0 c.args.header sixteen is c.requires.sound few;
+      shows = (torn_behind head failed.0 c.args.header sixteen is c.requires.sound few, failed.3);
     }
 
 pub returns-then-lacks-clause-rest : goal.returns-then-lacks-clause-rest

@@ -22,7 +22,7 @@ pub returns-in-Failed-clause-next : goal.returns-in-Failed-clause-next
 returns-in-Failed-clause-next g c =
     let failed = c.in-Failed.ensures.bytes in
     let sixteen : length c.fill.new.buf ≡ 16 = search rules in
-    next_failed failed.0 c.args.self.now _ _ _ (omega (arith, sixteen, failed.1)) failed.2 (λ closed. absurd cc)
+    next_failed failed.0 c.args.self.now _ _ _ (omega (arith, sixteen, failed.1)) failed.2 (λ closed. absurd cc) failed.3
 
 pub returns-in-Some-clause-next : goal.returns-in-Some-clause-next
 returns-in-Some-clause-next g c =

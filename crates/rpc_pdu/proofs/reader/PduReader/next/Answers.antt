@@ -1,6 +1,6 @@
 use Rattle.std.proofs.Common.{sym, ap, subst}
 use Rattle.rpc_pdu.specs.Reader.{Nexts, Reader}
-use Rattle.rpc_pdu.proofs.Runs.{alive_by, opens_none, told_by, reads_on}
+use Rattle.rpc_pdu.proofs.Runs.{alive_by, none_closed, opens_none, told_by, reads_on}
 use Rattle.rpc_pdu.proofs.reader.PduReader.next.Goals as goal
 
 pub returns-clause-next : goal.returns-clause-next
@@ -21,3 +21,6 @@ returns-clause-run g c pdus is_open read =
 
 pub returns-clause-sessions : goal.returns-clause-sessions
 returns-clause-sessions g c = opens_none c.advance-next.result c.args.self.now _ _ _ _ c.advance-next.ensures.next
+
+pub returns-clause-no_session : goal.returns-clause-no_session
+returns-clause-no_session g c closed = none_closed c.advance-next.result c.args.self.now _ _ _ _ c.advance-next.ensures.next closed
