@@ -1,0 +1,7 @@
+mod Asks
+mod Deeds
+mod Fields
+mod Halves
+mod Requests
+mod Reports
+mod Runs

@@ -1,0 +1,143 @@
+-- One computer after the other is asked: what link, clock and entropy gave and took for it.
+use Rattle.std.specs.Prelude.{◌+◌, ℕ, ℤ, List, [], ◌∷◌, ◌++◌, map, flat_map, Option}
+use Rattle.std.specs.List.{count_by}
+use Rattle.base_specs.specs.Counts.{FailsTimes}
+use Rattle.base_specs.specs.Told.{Added, Changed}
+use Rattle.edge_traits.specs.Clock.{ClockTold, GaveReadings}
+use Rattle.edge_traits.specs.Link.{LinkTold, failed_receipts, failed_sends}
+use Rattle.edge_traits.specs.declared.datagram.Addr.{Addr}
+use Rattle.edge_traits.specs.declared.link.Receipt.{Receipt}
+use Rattle.edge_traits.specs.declared.link.Receipt.TheVariants as receipt
+use Rattle.edge_traits.specs.declared.link.Tried.{Tried}
+use Rattle.edge_traits.specs.declared.sink.Put.{Put}
+use Rattle.ntp_wire.specs.declared.stamp.Stamp.{Stamp}
+use Rattle.partner_pick.specs.declared.entry.Entry.{Entry}
+use Rattle.monitor_run.specs.declared.asking.Ask.{Ask}
+use Rattle.monitor_run.specs.declared.asking.Heard.{Heard}
+use Rattle.monitor_run.specs.declared.asking.Heard.TheVariants.{Came, Quiet, Lost}
+use Rattle.monitor_run.specs.declared.finding.Finding.{Finding}
+use Rattle.monitor_run.specs.declared.finding.Finding.TheVariants.{Wrong}
+use Rattle.monitor_run.specs.declared.finding.Word.TheVariants.{NoAnswer}
+use Rattle.monitor_run.specs.Finding.{finding_of}
+use Rattle.monitor_run.specs.Lines.{is_answered, line_of}
+use Rattle.monitor_run.specs.Request.{plain_request}
+
+-- ---- What three devices did
+
+-- what a link, a clock and a source of words tell at a moment, and how often their calls have failed
+pub record Devices : Type 0 where
+  pub link : Option LinkTold
+  pub link_faults : ℕ
+  pub clock : Option ClockTold
+  pub clock_faults : ℕ
+  pub words : Option (List ℕ)
+  pub entropy_faults : ℕ
+
+abbrev pub devices : Option LinkTold → ℕ → Option ClockTold → ℕ → Option (List ℕ) → ℕ → Devices
+devices link link_faults clock clock_faults words entropy_faults = record {
+  link = link;
+  link_faults = link_faults;
+  clock = clock;
+  clock_faults = clock_faults;
+  words = words;
+  entropy_faults = entropy_faults;
+}
+
+-- the readings and the words that were given, the sends that were tried, and the receipts that were given
+pub record Deed : Type 0 where
+  pub readings : List ℤ
+  pub words : List ℕ
+  pub sends : List Tried
+  pub receipts : List Receipt
+
+-- nothing was given, and nothing was tried
+abbrev pub no_deed : Deed
+no_deed = record { readings = []; words = []; sends = []; receipts = [] }
+
+-- one after the other
+abbrev pub then : Deed → Deed → Deed
+then first next = record {
+  readings = first.readings ++ next.readings;
+  words = first.words ++ next.words;
+  sends = first.sends ++ next.sends;
+  receipts = first.receipts ++ next.receipts;
+}
+
+-- these sends were tried, and these receipts were given
+abbrev pub Exchanged : Option LinkTold → Option LinkTold → List Tried → List Receipt → Type 0
+Exchanged old new tried given = Changed (λ (told : LinkTold). record { sends = told.sends ++ tried; receipts = told.receipts ++ given }) old new
+
+-- This is all that the devices gave and took. The clock was not moved, and the link failed as often as sends and
+-- receipts say.
+pub record Did (deed : Deed) (before now : Devices) : Type 0 where
+  pub exchanged : Exchanged before.link now.link deed.sends deed.receipts
+  pub read : GaveReadings before.clock now.clock deed.readings
+  pub drew : Added before.words now.words deed.words
+  pub link_failed : FailsTimes (failed_sends deed.sends + failed_receipts deed.receipts) before.link_faults now.link_faults
+
+-- ---- One ask
+
+-- the receipt, and the reading that follows a datagram
+abbrev pub receipts_heard : Heard → List Receipt
+receipts_heard (Came from bytes at) = receipt.Got from bytes ∷ []
+receipts_heard Quiet = receipt.Quiet ∷ []
+receipts_heard Lost = receipt.Failed ∷ []
+
+abbrev pub readings_heard : Heard → List ℤ
+readings_heard (Came from bytes at) = at ∷ []
+readings_heard Quiet = []
+readings_heard Lost = []
+
+-- the two words of a timestamp: its seconds, then its fraction
+abbrev pub words_of : Stamp → List ℕ
+words_of stamp = stamp.seconds ∷ stamp.fraction ∷ []
+
+-- the plain request with a timestamp was sent to an address, and this came of it
+abbrev pub request_sent : Addr → Stamp → Put → Tried
+request_sent to stamp put = record { to = to; bytes = plain_request stamp; put = put }
+
+-- A reading, two words, the request with these as its timestamp, one receipt, and behind a datagram a reading.
+abbrev pub deed_of : Addr → Ask → Deed
+deed_of to ask = record {
+  readings = ask.at ∷ readings_heard ask.heard;
+  words = words_of ask.stamp;
+  sends = request_sent to ask.stamp ask.put ∷ [];
+  receipts = receipts_heard ask.heard;
+}
+
+-- what was found by it
+abbrev pub finding_by : Addr → Stamp → ℤ → Heard → Finding
+finding_by to stamp t1 (Came from bytes t4) = finding_of to stamp t1 from bytes t4
+finding_by to stamp t1 Quiet = Wrong NoAnswer
+finding_by to stamp t1 Lost = Wrong NoAnswer
+
+-- ---- Asks, one after the other
+
+-- an entry, and how it was asked
+pub record Asked : Type 0 where
+  pub entry : Entry
+  pub ask : Ask
+
+abbrev pub finding_at : Asked → Finding
+finding_at a = finding_by a.entry.addr a.ask.stamp a.ask.at a.ask.heard
+
+-- the entries that were asked
+abbrev pub entries_of : List Asked → List Entry
+entries_of asked = map (λ (a : Asked). a.entry) asked
+
+-- all that was given and tried for them
+abbrev pub deeds_of : List Asked → Deed
+deeds_of asked = record {
+  readings = flat_map (λ (a : Asked). (deed_of a.entry.addr a.ask).readings) asked;
+  words = flat_map (λ (a : Asked). (deed_of a.entry.addr a.ask).words) asked;
+  sends = flat_map (λ (a : Asked). (deed_of a.entry.addr a.ask).sends) asked;
+  receipts = flat_map (λ (a : Asked). (deed_of a.entry.addr a.ask).receipts) asked;
+}
+
+-- their lines
+abbrev pub lines_of : List Asked → List (List ℕ)
+lines_of asked = map (λ (a : Asked). line_of a.entry.name (finding_at a)) asked
+
+-- how many of these lines have no error
+abbrev pub answered_of : List Asked → ℕ
+answered_of asked = count_by (λ (a : Asked). is_answered (finding_at a)) asked
