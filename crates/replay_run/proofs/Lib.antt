@@ -1,0 +1,4 @@
+pub mod Counts
+pub mod Steps
+pub mod Ends
+pub mod Judging

@@ -1,0 +1,5 @@
+pub mod Seen
+pub mod Totals
+pub mod Replay
+pub mod Judged
+pub mod Running
