@@ -1,2 +1,4 @@
+mod Confs
 mod Shown
 mod Spelling
+pub mod Taking

@@ -1,9 +1,11 @@
--- The lines of a message have bytes in them.
+-- The lines of a message, and those with which `/dc` ends, have bytes in them.
 use Rattle.std.proofs.Common.{◌<◌, ℕ, zero, suc, List, length, All, arith}
 use Rattle.ntp_wire.specs.declared.header.Header.{Header}
 use Rattle.ms_auth.specs.declared.packet.Packet.{Packet}
 use Rattle.ms_auth.specs.declared.packet.Tail.{Tail}
 use Rattle.ms_auth.specs.declared.packet.Tail.TheVariants.{Plain, Short68, Ext120}
+use Rattle.dc_sign.specs.declared.tally.ServeEnd.{ServeEnd}
+use Rattle.w32tm_text.specs.Dc.{replies_line, refused_line, link_line, dc_lines}
 use Rattle.w32tm_text.specs.Show.{clock_line, root_line, reference_line, receive_line, tail_line, show_lines}
 
 clock_some : (h : Header) → 0 < length (clock_line h)
@@ -36,3 +38,22 @@ lines_some p (suc (suc zero)) d lt = reference_some p.header
 lines_some p (suc (suc (suc zero))) d lt = receive_some p.header
 lines_some p (suc (suc (suc (suc zero)))) d lt = tail_some p.tail
 lines_some p (suc (suc (suc (suc (suc k))))) d lt = absurd (omega arith)
+
+replies_some : (e : ServeEnd) → 0 < length (replies_line e)
+unfolding replies_line
+replies_some e = omega arith
+
+refused_some : (e : ServeEnd) → 0 < length (refused_line e)
+unfolding refused_line
+refused_some e = omega arith
+
+link_some : (e : ServeEnd) → 0 < length (link_line e)
+unfolding link_line
+link_some e = omega arith
+
+-- none of the three is empty
+pub dc_some : (e : ServeEnd) → All (λ (line : List ℕ). 0 < length line) (dc_lines e)
+dc_some e zero d lt = replies_some e
+dc_some e (suc zero) d lt = refused_some e
+dc_some e (suc (suc zero)) d lt = link_some e
+dc_some e (suc (suc (suc k))) d lt = absurd (omega arith)

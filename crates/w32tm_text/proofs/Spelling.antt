@@ -1,5 +1,5 @@
 -- The parts of the words of a command.
-use Rattle.std.proofs.Common.{◌≡◌, ◌≢◌, ◌<◌, ◌≤◌, ℕ, List, [], ◌∷◌, ◌++◌, length, take, get_or, Option, Some, None, Ok, MatchOption, IfSome, IsSomeAnd, refl, sym, ◌∙◌, ap, arith}
+use Rattle.std.proofs.Common.{◌≡◌, ◌≢◌, ◌<◌, ◌≤◌, ℕ, List, [], ◌∷◌, ◌++◌, length, take, get_or, Option, Some, None, Ok, MatchOption, IfSome, IsSomeAnd, refl, sym, ◌∙◌, ap, subst, arith}
 use Rattle.std.specs.Prelude.{codes}
 use denote.Ref.{Bor}
 use Rattle.std.proofs.lemmas.List.{take_all}
@@ -11,7 +11,9 @@ use Rattle.text_grammar.proofs.Keys.{key_no_colon}
 use Rattle.key_book.specs.declared.account.Account.{Account}
 use Rattle.key_book.specs.AccountText.{SpellsKey}
 use Rattle.key_book.proofs.AccountLines.{account_is as same_account}
-use Rattle.w32tm_text.specs.Words.{SpellsDatagram, SpellsKeys, colon}
+use Rattle.w32tm_text.specs.declared.words.Action.{Action}
+use Rattle.w32tm_text.specs.declared.words.Action.TheVariants.{Sign, Show, Dc, Monitor, Replay}
+use Rattle.w32tm_text.specs.Words.{SpellsAccount, SpellsAction, SpellsDatagram, SpellsKeys, colon}
 
 -- the keys that a text with a colon spells, cut there
 pub record AreKeysAt (current : List ℕ) (previous : Option (List ℕ)) (first second : List ℕ) : Type 0 where
@@ -79,8 +81,20 @@ too_many_digits digits bytes long spells =
     let within = spells.within in
     omega (arith, twice)
 
--- no word begins with both names
-pub sign_or_show : (word x y : List ℕ) → word ≡ codes "/sign:" ++ x → word ≡ codes "/show:" ++ y → ⊥
-sign_or_show word x y sign show =
-    let differ : 105 ≡ 104 = ap (λ (l : List ℕ). get_or l 2 0) (sym sign ∙ show) in
-    omega (arith, differ)
+-- a word that begins with `/sign:` spells no other command
+pub is_sign : (word text : List ℕ) (action : Action) → word ≡ codes "/sign:" ++ text → SpellsAction action word
+    → (account : Account) × (action ≡ Sign account) × SpellsAccount account text
+is_sign word text (Sign account) begins spells =
+    (account, refl, subst (SpellsAccount account) (same_rest (codes "/sign:") spells.text text (sym spells.written ∙ begins)) spells.spelled)
+is_sign word text (Show bytes) begins spells =
+    let differ : 105 ≡ 104 = ap (λ (l : List ℕ). get_or l 2 0) (sym begins ∙ spells.written) in
+    absurd (omega (arith, differ))
+is_sign word text (Dc turns) begins spells =
+    let differ : 115 ≡ 100 = ap (λ (l : List ℕ). get_or l 1 0) (sym begins ∙ spells.written) in
+    absurd (omega (arith, differ))
+is_sign word text Monitor begins spells =
+    let differ : 115 ≡ 109 = ap (λ (l : List ℕ). get_or l 1 0) (sym begins ∙ spells) in
+    absurd (omega (arith, differ))
+is_sign word text Replay begins spells =
+    let differ : 115 ≡ 114 = ap (λ (l : List ℕ). get_or l 1 0) (sym begins ∙ spells) in
+    absurd (omega (arith, differ))

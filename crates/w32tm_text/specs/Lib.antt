@@ -1,3 +1,10 @@
+pub mod Dc
+pub mod Given
+pub mod Options
+pub mod Conf
 pub mod Show
 pub mod Status
 pub mod Words
+pub use Rattle.w32t_settings.specs.Answer
+pub use Rattle.w32t_settings.specs.SettingText
+pub use Rattle.w32t_settings.specs.Values

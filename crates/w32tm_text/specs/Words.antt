@@ -1,12 +1,13 @@
 -- The grammar of the words of the command line, as a relation between a command and its spelling.
-use Rattle.std.specs.Prelude.{◌≡◌, ◌<◌, ◌≤◌, ◌^◌, ℕ, List, [], ◌∷◌, ◌++◌, length, map, codes, decimal, Option, Some, None, Ok, String, string_bytes}
+use Rattle.std.specs.Prelude.{◌≡◌, ◌<◌, ◌≤◌, ◌^◌, ℕ, List, ◌∷◌, ◌++◌, length, map, codes, decimal, Option, Some, None, Ok, String, string_bytes}
 use Rattle.std.specs.declared.alloc.Global.{Global}
 use Rattle.hex.specs.Hex.{decode_of}
 use Rattle.key_book.specs.declared.account.Account.{Account}
 use Rattle.key_book.specs.AccountText.{SpellsKey}
 use Rattle.w32tm_text.specs.declared.words.Action.{Action}
-use Rattle.w32tm_text.specs.declared.words.Action.TheVariants.{Sign, Show}
+use Rattle.w32tm_text.specs.declared.words.Action.TheVariants.{Sign, Show, Dc, Monitor, Replay}
 use Rattle.w32tm_text.specs.declared.words.Command.{Command}
+use Rattle.w32tm_text.specs.Options.{SpellOptions}
 
 -- the bytes of the words
 abbrev pub texts : List (String Global) → List (List ℕ)
@@ -48,23 +49,27 @@ pub record SpellsShow (bytes word : List ℕ) : Type 0 where
   pub written : word ≡ codes "/show:" ++ digits
   pub spelled : SpellsDatagram bytes digits
 
+-- `/dc:` and the number of turns, a decimal of 1 to 1,000,000
+pub record SpellsDc (turns : ℕ) (word : List ℕ) : Type 0 where
+  pub some : 1 ≤ turns
+  pub most : turns ≤ 1000000
+  pub written : word ≡ codes "/dc:" ++ decimal turns
+
 -- the first word says what is to be done
 abbrev pub SpellsAction : Action → List ℕ → Type 0
 SpellsAction (Sign account) word = SpellsSign account word
 SpellsAction (Show bytes) word = SpellsShow bytes word
+SpellsAction (Dc turns) word = SpellsDc turns word
+SpellsAction Monitor word = word ≡ codes "/monitor"
+SpellsAction Replay word = word ≡ codes "/replay"
 
--- the words behind the first one are options of the command; neither `/sign` nor `/show` has any
-abbrev pub SpellOptions : Action → List (List ℕ) → Type 0
-SpellOptions (Sign account) options = options ≡ []
-SpellOptions (Show bytes) options = options ≡ []
-
--- the words are those of the command
+-- the words are those of the command: the first says what is to be done, and the options stand behind it
 pub record SpellsCommand (c : Command) (words : List (List ℕ)) : Type 0 where
   pub first : List ℕ
-  pub options : List (List ℕ)
-  pub are : words ≡ first ∷ options
+  pub rest : List (List ℕ)
+  pub are : words ≡ first ∷ rest
   pub action : SpellsAction c.action first
-  pub options_spelled : SpellOptions c.action options
+  pub options : SpellOptions c words
 
 -- the words spell a command with this action
 pub record IsCommand (action : Action) (words : List (List ℕ)) : Type 0 where
@@ -79,6 +84,18 @@ IsSign account words = IsCommand (Sign account) words
 -- the words spell `/show` for these bytes
 abbrev pub IsShow : List ℕ → List (List ℕ) → Type 0
 IsShow bytes words = IsCommand (Show bytes) words
+
+-- the words spell `/dc` for so many turns
+abbrev pub IsDc : ℕ → List (List ℕ) → Type 0
+IsDc turns words = IsCommand (Dc turns) words
+
+-- the words spell `/monitor`
+abbrev pub IsMonitor : List (List ℕ) → Type 0
+IsMonitor words = IsCommand Monitor words
+
+-- the words spell `/replay`
+abbrev pub IsReplay : List (List ℕ) → Type 0
+IsReplay words = IsCommand Replay words
 
 -- the words spell no command
 abbrev pub SpellNothing : List (List ℕ) → Type 0

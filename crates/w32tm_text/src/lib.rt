@@ -1,24 +1,38 @@
 //! The texts of the program `w32tm`: the words of its command line, and the lines that it prints.
 //!
-//! Words are read as a command, [`read_words`]. `/show` prints a message by [`show_lines`]. A run ends with a
-//! [`Status`], which has an exit code and a line on standard error, [`status_line`].
+//! Words are read as a command with its options, [`read_words`]. `/show` prints a message by [`show_lines`], and `/dc`
+//! ends with [`dc_lines`]. A run ends with a [`Status`], which has an exit code and a line on standard error,
+//! [`status_line`]. The settings text, which `/config:` names, is read by [`read_settings`] of `w32t_settings`, whose
+//! [`Settings`] are handed on with their definitions; what a member is set to by them says [`conf_of`].
 //!
 //! It stands on `dc_sign`, `key_book` and `ms_auth` for what a command names and prints, on `text_grammar` for how
-//! numbers and keys are spelled, and on `line_text` for lines that are written without memory. The layer above may rely
-//! on this: words are a command exactly where the grammar says so, a message has its five lines, and a status its one
-//! code and its one line.
+//! numbers, ports and keys are spelled, on `line_text` for lines that are written without memory, and on
+//! `w32t_settings`, `partner_pick`, `phase_rule` and `time_machine` for settings and members. The layer above may rely
+//! on this: words are a command exactly where the grammar says so, and one command at most; a message has its
+//! five lines, the end of `/dc` its three, and a status its one code and its one line.
 //!
-//! The definitions stand in `specs/`: `Words.antt` has the grammar, `Show.antt` the lines of a message, and
-//! `Status.antt` the codes and the lines of statuses.
+//! The definitions stand in `specs/`: `Words.antt` has the grammar of commands, `Options.antt` which options each
+//! command requires and allows and where they stand, `Show.antt` the lines of a message, `Dc.antt` those with which
+//! `/dc` ends, `Conf.antt` what a member is set to, and `Status.antt` the codes and the lines of statuses. `Given.antt` says what one word more makes of the
+//! options that were taken, which only the reader of options speaks of.
 #![tactic(auto)]
 
+mod conf;
+mod dc;
+mod fields;
+mod options;
 mod show;
 mod status;
 mod words;
 
+pub use conf::{ConfFault, conf_of};
+pub use dc::dc_lines;
 pub use show::show_lines;
 pub use status::{Status, status_line};
+pub use w32t_settings::{Settings, SettingsFault, laws_of_settings, read_settings};
 pub use words::{Action, BadWords, Command, read_words};
 
+#[cfg(test)]
+mod conf_tests;
 #[cfg(test)]
 mod tests;

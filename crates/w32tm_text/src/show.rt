@@ -4,7 +4,7 @@ ghost use Rattle.std.specs.Char.{is_ascii};
 ghost use Rattle.std.specs.List.{list_all};
 ghost use Rattle.w32tm_text.specs.Show.{clock_line, receive_line, reference_line, root_line, show_lines, stamp_digits, tail_line, word_digits};
 
-use itoa::Integer;
+use crate::fields::add_field;
 use line_text::{Line, LongLine};
 use ms_auth::{Packet, Tail};
 use ntp_wire::{Header, Stamp};
@@ -109,17 +109,6 @@ fn tail_line(tail: Tail) -> LongLine
     }
     line.add_text("\n");
     line
-}
-
-/// Adds a name and a number in decimal.
-fn add_field<I: Integer>(line: &mut LongLine, name: &str, number: I)
-    requires room { length line.old + length name.now + I.MAX_STR_LEN ≤ 256 }
-    requires ascii { IsTrue (list_all is_ascii name.now) }
-    ensures text { line.new ≡ line.old ++ name.now ++ I.text number }
-    ensures len { length line.new ≤ length line.old + length name.now + I.MAX_STR_LEN }
-{
-    line.add_text(name);
-    line.add_number(number);
 }
 
 /// Adds a name and the digits of a timestamp.

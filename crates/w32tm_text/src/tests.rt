@@ -1,6 +1,8 @@
-//! Words good and bad, the lines of messages, and the codes and lines of statuses.
-use crate::{Action, BadWords, Command, Status, read_words, show_lines, status_line};
-use dc_sign::Refusal;
+//! Words good and bad, the lines of messages and of `/dc`, and the codes and lines of statuses.
+mod options;
+
+use crate::{Action, BadWords, Command, Status, dc_lines, read_words, show_lines, status_line};
+use dc_sign::{Refusal, ServeEnd, ServeWhy};
 use key_book::Account;
 use ms_auth::read_packet;
 use std::alloc::{AllocError, Global};
@@ -76,6 +78,7 @@ fn shows_each_kind_at_its_ends(rt: HostRuntime) -> Result<(), Fail> {
         let Ok(
             Command {
                 action: Action::Show(bytes),
+                ..
             },
         ) = read_words(&words)
         else {
@@ -133,6 +136,7 @@ fn accounts_of_words(rt: HostRuntime) -> Result<(), Fail> {
             Ok(
                 Command {
                     action: Action::Sign(read),
+                    ..
                 },
             ) => assert_eq!(rt; read, account, "{word}"),
             _ => return Err("words")?,
@@ -154,6 +158,7 @@ fn datagrams_of_words(rt: HostRuntime) -> Result<(), Fail> {
             Ok(
                 Command {
                     action: Action::Show(bytes),
+                    ..
                 },
             ) => {
                 assert_eq!(rt; bytes.as_slice().len(), count);
@@ -223,9 +228,31 @@ fn codes_and_lines(rt: HostRuntime) {
     for (status, code, line) in [
         (Status::Done, 0, ""),
         (Status::BadWords, 1, "w32tm: bad words\n"),
+        (
+            Status::BadConfig { line: 1 },
+            2,
+            "w32tm: bad settings at line 1\n",
+        ),
+        (
+            Status::BadConfig { line: u32::MAX },
+            2,
+            "w32tm: bad settings at line 4294967295\n",
+        ),
+        (
+            Status::BadCapture { at: 0 },
+            3,
+            "w32tm: bad capture at byte 0\n",
+        ),
+        (
+            Status::BadCapture { at: u64::MAX },
+            3,
+            "w32tm: bad capture at byte 18446744073709551615\n",
+        ),
         (Status::ReadFault, 4, "w32tm: read fault\n"),
         (Status::WriteFault, 5, "w32tm: write fault\n"),
         (Status::ClockFault, 9, "w32tm: clock fault\n"),
+        (Status::EntropyFault, 10, "w32tm: entropy fault\n"),
+        (Status::NoPartner, 11, "w32tm: no partner\n"),
         (
             refused(Refusal::BadLength),
             14,
@@ -251,6 +278,7 @@ fn codes_and_lines(rt: HostRuntime) {
             14,
             "w32tm: bad request, NoOldKey\n",
         ),
+        (Status::NoMemory, 15, "w32tm: no memory\n"),
     ] {
         assert_eq!(rt; status.code(), code, "{status:?}");
         assert_eq!(rt;
@@ -259,4 +287,69 @@ fn codes_and_lines(rt: HostRuntime) {
             "{status:?}"
         );
     }
+}
+
+const NOTHING: ServeEnd = ServeEnd {
+    signed: 0,
+    plain: 0,
+    refused: [0; 5],
+    quiet: 0,
+    lost: 0,
+    unsent: 0,
+    why: ServeWhy::Done,
+};
+
+const GREATEST: ServeEnd = ServeEnd {
+    signed: u32::MAX,
+    plain: u32::MAX,
+    refused: [u32::MAX; 5],
+    quiet: u32::MAX,
+    lost: u32::MAX,
+    unsent: u32::MAX,
+    why: ServeWhy::ClockFault,
+};
+
+#[test]
+fn closing_lines_of_dc(rt: HostRuntime) -> Result<(), Fail> {
+    for (end, lines) in [
+        (
+            ServeEnd {
+                signed: 1,
+                refused: [0, 0, 0, 1, 0],
+                quiet: 1,
+                ..NOTHING
+            },
+            "signed=1 plain=0\n\
+             refused BadLength=0 BadVersion=0 BadMode=0 UnknownAccount=1 NoOldKey=0\n\
+             link quiet=1 lost=0 unsent=0\n",
+        ),
+        (
+            ServeEnd {
+                signed: 10,
+                plain: 2,
+                refused: [3, 4, 5, 6, 7],
+                quiet: 8,
+                lost: 9,
+                unsent: 11,
+                why: ServeWhy::Done,
+            },
+            "signed=10 plain=2\n\
+             refused BadLength=3 BadVersion=4 BadMode=5 UnknownAccount=6 NoOldKey=7\n\
+             link quiet=8 lost=9 unsent=11\n",
+        ),
+        (
+            GREATEST,
+            "signed=4294967295 plain=4294967295\n\
+             refused BadLength=4294967295 BadVersion=4294967295 BadMode=4294967295 \
+             UnknownAccount=4294967295 NoOldKey=4294967295\n\
+             link quiet=4294967295 lost=4294967295 unsent=4294967295\n",
+        ),
+    ] {
+        let mut text = Vec::new(rt.alloc());
+        for line in &dc_lines(&end) {
+            text.extend_from_slice(line.as_slice())?;
+        }
+        assert_eq!(rt; text.as_slice(), lines.as_bytes());
+    }
+    Ok(())
 }

@@ -1,14 +1,23 @@
 //! The words of the command line.
-ghost use Rattle.std.specs.Prelude.{◌≡◌, ℕ, List, Option, ◌++◌, ◌∷◌, ◌/◌, length, IsTrue, IfOk, IfSome, IsSomeAnd, Some, Ok};
+ghost use Rattle.std.specs.Prelude.{◌≡◌, ◌≤◌, ℕ, List, Option, ◌++◌, ◌∷◌, ◌/◌, length, decimal, IsTrue, IfOk, IfSome, IsSomeAnd, Some, Ok};
 ghost use Rattle.hex.specs.Hex.{decode_of};
 ghost use Rattle.key_book.specs.declared.account.Account.{Account};
 ghost use Rattle.w32tm_text.specs.declared.words.Action.{Action};
 ghost use Rattle.w32tm_text.specs.declared.words.Command.{Command};
 ghost use Rattle.w32tm_text.specs.Words.{SpellsAccount, SpellsAction, SpellsCommand, SpellsDatagram, SpellsKeys, texts};
 
+use crate::options::read_options;
 use edge_traits::{DATAGRAM_LEN, Datagram};
 use key_book::Account;
 use text_grammar::{cut, read_decimal, read_key};
+
+// The commands of one word.
+const MONITOR: &[u8] = b"/monitor";
+
+const REPLAY: &[u8] = b"/replay";
+
+/// The most turns of a run.
+const MOST_TURNS: u32 = 1_000_000;
 
 /// What is to be done.
 #[derive(Drop)]
@@ -17,6 +26,12 @@ pub enum Action {
     Sign(Account),
     /// `/show:HEX`: print the fields of the message that these bytes spell.
     Show(Datagram),
+    /// `/dc:TURNS`: serve the accounts of the settings, for so many turns.
+    Dc(u32),
+    /// `/monitor`: ask each computer of the settings for the time, once.
+    Monitor,
+    /// `/replay`: print what a member does with the events of a capture.
+    Replay,
 }
 
 /// What the words say.
@@ -24,6 +39,13 @@ pub enum Action {
 pub struct Command {
     /// What is to be done.
     pub action: Action,
+    /// The word in which the path of the settings text stands, behind `/config:`. Words are counted from 0, with the
+    /// command.
+    pub config: Option<usize>,
+    /// The word in which the path of the capture stands, behind `/capture:`.
+    pub capture: Option<usize>,
+    /// The local port of the link, 1 to 65,535, of `/port:`.
+    pub port: Option<u16>,
 }
 
 /// The words spell no command.
@@ -37,22 +59,27 @@ pub struct BadWords;
 /// - `/sign:RID:KEY` or `/sign:RID:KEY:PREVIOUS`. RID is a decimal without sign or leading zero, at most
 ///   4,294,967,295, and a key is 32 hexadecimal digits in either case.
 /// - `/show:HEX`, where HEX is an even number of hexadecimal digits in either case, 0 to 512.
+/// - `/dc:TURNS`, where TURNS is a decimal of 1 to 1,000,000 without sign or leading zero. It requires `/config:PATH`
+///   and allows `/port:N`.
+/// - `/monitor`, which requires `/config:PATH` and allows `/port:N`.
+/// - `/replay`, which requires `/config:PATH` and allows `/capture:PATH`.
 ///
-/// Options stand behind it; neither of the two has any. All other words are `BadWords`.
+/// The options stand behind it in any order, each at most once, and no others. A path is any text that isn't empty, and
+/// N a decimal of 1 to 65,535 without sign or leading zero. All other words are `BadWords`.
 pub fn read_words(words: &Vec<String>) -> Result<Command, BadWords>
     ensures read { IfOk result (λ c. SpellsCommand c (texts words.now.items)) }
     ensures found { (c : Command) → SpellsCommand c (texts words.now.items) → result ≡ Ok c }
 {
-    let Some((first, options)) = words.as_slice().split_first() else {
-        return Err(BadWords);
-    };
-    let Some(action) = read_action(first.as_bytes()) else {
-        return Err(BadWords);
-    };
-    if !options.is_empty() {
-        return Err(BadWords);
-    }
-    Ok(Command { action })
+    read_command(words).ok_or(BadWords)
+}
+
+/// The command that the words spell.
+fn read_command(words: &Vec<String>) -> Option<Command>
+    ensures read { IfSome result (λ c. SpellsCommand c (texts words.now.items)) }
+    ensures found { (c : Command) → SpellsCommand c (texts words.now.items) → result ≡ Some c }
+{
+    let first = words.as_slice().first()?;
+    read_options(read_action(first.as_bytes())?, words)
 }
 
 /// What the first word asks for.
@@ -66,16 +93,36 @@ fn read_action(word: &[u8]) -> Option<Action>
     if let Some(digits) = behind(word, b"/show:") {
         return Some(Action::Show(read_datagram(digits)?));
     }
-    None
+    if let Some(turns) = behind(word, b"/dc:") {
+        return Some(Action::Dc(read_turns(turns)?));
+    }
+    if word == MONITOR {
+        Some(Action::Monitor)
+    } else if word == REPLAY {
+        Some(Action::Replay)
+    } else {
+        None
+    }
 }
 
 /// What stands behind the name with which a word begins. None where it begins otherwise.
-fn behind<'a>(word: &'a [u8], name: &[u8]) -> Option<&'a [u8]>
+pub(crate) fn behind<'a>(word: &'a [u8], name: &[u8]) -> Option<&'a [u8]>
     ensures read { IfSome result (λ text. word.now ≡ name.now ++ text.now) }
     ensures found { (text : List ℕ) → word.now ≡ name.now ++ text
         → IsSomeAnd result (λ t. t.now ≡ text) }
 {
     word.strip_prefix(name)
+}
+
+/// A number of turns.
+fn read_turns(text: &[u8]) -> Option<u32>
+    ensures read { IfSome result (λ n. (1 ≤ n) × (n ≤ 1000000) × (text.now ≡ decimal n)) }
+    ensures found { (n : ℕ) → 1 ≤ n → n ≤ 1000000 → text.now ≡ decimal n → result ≡ Some n }
+{
+    match read_decimal(text) {
+        Some(turns) if turns > 0 && turns <= MOST_TURNS => Some(turns),
+        _ => None,
+    }
 }
 
 /// The account of `RID:KEY` or `RID:KEY:PREVIOUS`.
@@ -97,7 +144,8 @@ fn read_account(text: &[u8]) -> Option<Account>
 fn read_keys(text: &[u8]) -> Option<([u8; 16], Option<[u8; 16]>)>
     ensures read { IfSome result (λ keys. SpellsKeys keys.0 keys.1 text.now) }
     ensures found { (current : List ℕ) (previous : Option (List ℕ))
-        → SpellsKeys current previous text.now → result ≡ Some record { 0 = current; 1 = previous } }
+        → SpellsKeys current previous text.now
+        → result ≡ Some record { 0 = current; 1 = previous } }
 {
     match cut(text, b':') {
         None => Some((read_key(text)?, None)),

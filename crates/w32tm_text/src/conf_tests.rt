@@ -1,0 +1,103 @@
+//! What a member is set to. The order of the partners and the limits were worked out by hand from the rules.
+use crate::{ConfFault, conf_of};
+use edge_traits::Addr;
+use key_book::Account;
+use ms_auth::Kind;
+use std::alloc::Global;
+use std::test::Fail;
+use time_machine::Conf;
+use w32t_settings::read_settings;
+
+const KEY: [u8; 16] = [0, 1, 2, 3, 4, 5, 6, 7, 8, 9, 10, 11, 12, 13, 14, 15];
+
+const MEMBER: &str = "Name=WS1
+Role=Member
+Rid=1103
+account 1103 000102030405060708090a0b0c0d0e0f
+computer DC1 10.0.0.1:123 S---
+computer DC2 10.0.0.2:123 S--E
+computer DC3 10.0.0.3:123 -R--
+";
+
+/// The account of Rid isn't the first one, and a short message could not name it.
+const EXTENDED: &str = "Name=DC9
+Role=Controller
+Rid=3000000000
+Auth=Extended
+account 1103 0f0e0d0c0b0a09080706050403020100
+account 3000000000 000102030405060708090a0b0c0d0e0f
+computer DC9 10.0.0.9:123 SR-E
+computer DC2 10.0.0.2:1123 S---
+computer DC3 10.0.0.3:123 -R--
+";
+
+/// The PDC emulator doesn't ask itself, and asks no other emulator of its domain.
+const WITHOUT_PARTNER: [&str; 3] = [
+    "computer DC1 10.0.0.1:123 S--E\n",
+    "computer DC1 10.0.0.1:123 SRPE\ncomputer DC2 10.0.0.2:123 S--E\n",
+    "",
+];
+
+fn read(alloc: Global, text: &str) -> Result<Result<Conf, ConfFault>, Fail> {
+    if text.len() > 16_777_217 {
+        return Err(Fail::from("a text that is too long"));
+    }
+    let settings = read_settings(alloc, text.as_bytes()).map_err(|_| "no settings")?;
+    Ok(conf_of(alloc, &settings))
+}
+
+fn at(last: u8, port: u16) -> Addr {
+    Addr {
+        ip: 0x0A00_0000 + u32::from(last),
+        port,
+    }
+}
+
+#[test]
+fn members_are_set(rt: HostRuntime) -> Result<(), Fail> {
+    let conf = read(rt.alloc(), MEMBER)?.map_err(|_| "no conf")?;
+    assert_eq!(rt; conf.kind, Kind::Short);
+    assert_eq!(rt;
+        conf.account,
+        Account {
+            rid: 1103,
+            current: KEY,
+            previous: None
+        }
+    );
+    assert_eq!(rt; conf.limits.max_pos, 4_294_967_295);
+    assert_eq!(rt; conf.limits.max_neg, 4_294_967_295);
+    assert_eq!(rt; conf.limits.max_allowed, 300);
+    assert_eq!(rt; conf.limits.min_poll, 10);
+    assert_eq!(rt; conf.limits.max_poll, 15);
+    let partners = [at(2, 123), at(1, 123), at(3, 123)];
+    assert_eq!(rt; conf.partners.as_slice(), partners.as_slice());
+    let conf = read(rt.alloc(), EXTENDED)?.map_err(|_| "no conf")?;
+    assert_eq!(rt; conf.kind, Kind::Extended);
+    assert_eq!(rt;
+        conf.account,
+        Account {
+            rid: 3_000_000_000,
+            current: KEY,
+            previous: None
+        }
+    );
+    assert_eq!(rt; conf.limits.max_pos, 172_800);
+    assert_eq!(rt; conf.partners.as_slice(), [at(3, 123)].as_slice());
+    Ok(())
+}
+
+#[test]
+fn settings_without_a_partner(rt: HostRuntime) -> Result<(), Fail> {
+    for computers in WITHOUT_PARTNER {
+        let text = format!(in rt.alloc();
+            "Name=DC1\nRole=Pdc\nRid=1103\naccount 1103 000102030405060708090a0b0c0d0e0f\n{computers}"
+        )?;
+        assert_eq!(rt;
+            read(rt.alloc(), &text)?.err(),
+            Some(ConfFault::NoPartner),
+            "at {computers:?}"
+        );
+    }
+    Ok(())
+}
