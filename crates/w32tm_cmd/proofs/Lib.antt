@@ -1,4 +1,8 @@
 mod Commands
+mod Configuring
+mod Controlling
+mod Monitoring
+mod Replaying
 mod Requests
 mod Showing
 mod Signing

@@ -7,33 +7,27 @@ use Rattle.dc_sign.specs.declared.outcome.Refusal.TheVariants.{BadLength}
 use Rattle.w32tm_cmd.specs.Seen.{Seen, HasNoFault}
 use Rattle.w32tm_cmd.specs.Show.{Shows, IsShowAnswer}
 use Rattle.w32tm_text.specs.declared.status.Status.{Status}
-use Rattle.w32tm_text.specs.declared.status.Status.TheVariants.{Done, BadWords, ReadFault, WriteFault, ClockFault, BadRequest}
+use Rattle.w32tm_text.specs.declared.status.Status.TheVariants.{Done, WriteFault, BadRequest}
 
 pub show_answer : (bytes : List ℕ) (before now : Seen) (status : Status) → Shows bytes before now status → IsShowAnswer status
 show_answer bytes before now Done shows = tt
-show_answer bytes before now BadWords shows = shows
-show_answer bytes before now ReadFault shows = shows
 show_answer bytes before now WriteFault shows = tt
-show_answer bytes before now ClockFault shows = shows
 show_answer bytes before now (BadRequest reason) shows = shows.is
+show_answer bytes before now _ shows = shows
 
 -- what was refused is no message
 pub refused_length : (bytes : List ℕ) (before now : Seen) (status : Status) → Shows bytes before now status → status ≡ BadRequest BadLength → ¬ IsPacketLength (length bytes)
 refused_length bytes before now Done shows is = cc is
-refused_length bytes before now BadWords shows is = absurd shows
-refused_length bytes before now ReadFault shows is = absurd shows
 refused_length bytes before now WriteFault shows is = cc is
-refused_length bytes before now ClockFault shows is = absurd shows
 refused_length bytes before now (BadRequest reason) shows is = shows.no_message
+refused_length bytes before now _ shows is = absurd shows
 
 -- what is no message was refused
 pub length_refused : (bytes : List ℕ) (before now : Seen) (status : Status) → Shows bytes before now status → ¬ IsPacketLength (length bytes) → status ≡ BadRequest BadLength
 length_refused bytes before now Done shows none = absurd (none (packet_length shows.message bytes shows.spelled))
-length_refused bytes before now BadWords shows none = absurd shows
-length_refused bytes before now ReadFault shows none = absurd shows
 length_refused bytes before now WriteFault shows none = absurd (none (packet_length shows.message bytes shows.spelled))
-length_refused bytes before now ClockFault shows none = absurd shows
 length_refused bytes before now (BadRequest reason) shows none = let is = shows.is in cc is
+length_refused bytes before now _ shows none = absurd shows
 
 -- what failed raised its count
 rose : (before now : ℕ) → Fails before now → Rose before now
@@ -42,8 +36,6 @@ rose before now fails = omega (arith, fails.once)
 -- a run without a fault, of bytes that spell a message, is done
 pub shown : (bytes : List ℕ) (before now : Seen) (status : Status) → HasNoFault before now → IsPacketLength (length bytes) → Shows bytes before now status → status ≡ Done
 shown bytes before now Done none message shows = refl
-shown bytes before now BadWords none message shows = absurd shows
-shown bytes before now ReadFault none message shows = absurd shows
 shown bytes before now WriteFault none message shows = absurd (none.write (rose _ _ shows.cause))
-shown bytes before now ClockFault none message shows = absurd shows
 shown bytes before now (BadRequest reason) none message shows = absurd (shows.no_message message)
+shown bytes before now _ none message shows = absurd shows

@@ -11,7 +11,7 @@ use Rattle.dc_sign.proofs.Replies.{too_long}
 use Rattle.w32tm_cmd.specs.Seen.{Seen, ReadsInput, HasNoFault}
 use Rattle.w32tm_cmd.specs.Sign.{request_limit, Signs, DecidesBy, IsSignAnswer}
 use Rattle.w32tm_text.specs.declared.status.Status.{Status}
-use Rattle.w32tm_text.specs.declared.status.Status.TheVariants.{Done, BadWords, ReadFault, WriteFault, ClockFault, BadRequest}
+use Rattle.w32tm_text.specs.declared.status.Status.TheVariants.{Done, ReadFault, WriteFault, ClockFault, BadRequest}
 
 -- bytes past the first 257 change no refusal
 front_decides : (accounts : List Account) (all input : List ℕ) (left : Option (List ℕ)) → Took (Some all) left input → length input ≤ request_limit → (length input < request_limit → IsUsedUp left) → refusal_of accounts all ≡ refusal_of accounts input
@@ -33,19 +33,19 @@ taken_decides account bytes input before now told r =
 
 pub decides_by : (account : Account) (bytes : List ℕ) (before now : Seen) (status : Status) → before.left ≡ Some bytes → Signs account before now status → DecidesBy account bytes status
 decides_by account bytes before now Done told signs = taken_decides account bytes signs.prepared.input before now told signs.prepared.takes.read ∙ signs.prepared.accepted
-decides_by account bytes before now BadWords told signs = signs
 decides_by account bytes before now ReadFault told signs = tt
 decides_by account bytes before now WriteFault told signs = taken_decides account bytes signs.prepared.input before now told signs.prepared.takes.read ∙ signs.prepared.accepted
 decides_by account bytes before now ClockFault told signs = tt
 decides_by account bytes before now (BadRequest reason) told signs = taken_decides account bytes signs.input before now told signs.takes.read ∙ signs.refused
+decides_by account bytes before now _ told signs = signs
 
 pub sign_answer : (account : Account) (before now : Seen) (status : Status) → Signs account before now status → IsSignAnswer status
 sign_answer account before now Done signs = tt
-sign_answer account before now BadWords signs = signs
 sign_answer account before now ReadFault signs = tt
 sign_answer account before now WriteFault signs = tt
 sign_answer account before now ClockFault signs = tt
 sign_answer account before now (BadRequest reason) signs = tt
+sign_answer account before now _ signs = signs
 
 -- what failed raised its count
 rose : (before now : ℕ) → Fails before now → Rose before now
@@ -55,13 +55,13 @@ rose before now fails = omega (arith, fails.once)
 pub completes : (account : Account) (bytes : List ℕ) (before now : Seen) (status : Status) → HasNoFault before now → refusal_of (account ∷ []) bytes ≡ None
     → Signs account before now status → DecidesBy account bytes status → status ≡ Done
 completes account bytes before now Done none accepted signs decides = refl
-completes account bytes before now BadWords none accepted signs decides = absurd signs
 completes account bytes before now ReadFault none accepted signs decides = absurd (none.read (rose _ _ signs.cause))
 completes account bytes before now WriteFault none accepted signs decides = absurd (none.write (rose _ _ signs.cause))
 completes account bytes before now ClockFault none accepted signs decides = absurd (none.clock (rose _ _ signs.cause))
 completes account bytes before now (BadRequest reason) none accepted signs decides =
     let wrong : None ≡ Some reason = sym accepted ∙ decides in
     cc wrong
+completes account bytes before now _ none accepted signs decides = absurd signs
 
 -- a run without a fault, of a request that is refused, says why
 pub completes_refused : (account : Account) (bytes : List ℕ) (reason : Refusal) (before now : Seen) (status : Status) → HasNoFault before now → refusal_of (account ∷ []) bytes ≡ Some reason
@@ -69,10 +69,10 @@ pub completes_refused : (account : Account) (bytes : List ℕ) (reason : Refusal
 completes_refused account bytes reason before now Done none refused signs decides =
     let wrong : Some reason ≡ None = sym refused ∙ decides in
     cc wrong
-completes_refused account bytes reason before now BadWords none refused signs decides = absurd signs
 completes_refused account bytes reason before now ReadFault none refused signs decides = absurd (none.read (rose _ _ signs.cause))
 completes_refused account bytes reason before now WriteFault none refused signs decides = absurd (none.write (rose _ _ signs.cause))
 completes_refused account bytes reason before now ClockFault none refused signs decides = absurd (none.clock (rose _ _ signs.cause))
 completes_refused account bytes reason before now (BadRequest other) none refused signs decides =
     let same : Some other ≡ Some reason = sym decides ∙ refused in
     cc same
+completes_refused account bytes reason before now _ none refused signs decides = absurd signs

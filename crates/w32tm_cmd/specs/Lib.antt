@@ -1,4 +1,9 @@
+pub mod Config
+pub mod Dc
+pub mod Monitor
+pub mod Replay
 pub mod Seen
 pub mod Show
 pub mod Sign
+pub mod Touching
 pub mod Writing

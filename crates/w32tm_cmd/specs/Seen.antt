@@ -3,15 +3,23 @@ use Rattle.std.specs.Prelude.{◌≡◌, ◌<◌, ◌≤◌, ℕ, List, length, 
 use Rattle.base_specs.specs.Counts.{Rose}
 use Rattle.base_specs.specs.Told.{Took, IsUsedUp}
 use Rattle.edge_traits.specs.Clock.{ClockTold}
+use Rattle.edge_traits.specs.Link.{LinkTold}
 
--- the bytes left on the input, the bytes written, the readings and moves of the clock, and the counts of failed calls
+-- the bytes left of the settings and of the input, the bytes written, what the link and the clock gave and took, the
+-- random words given, and the counts of failed calls
 pub record Seen : Type 0 where
+  pub config : Option (List ℕ)
+  pub config_faults : ℕ
   pub left : Option (List ℕ)
   pub read_faults : ℕ
   pub written : Option (List ℕ)
   pub write_faults : ℕ
+  pub link : Option LinkTold
+  pub link_faults : ℕ
   pub clock : Option ClockTold
   pub clock_faults : ℕ
+  pub words : Option (List ℕ)
+  pub entropy_faults : ℕ
 
 -- these bytes were read: all there were, or as many as the limit
 pub record ReadsInput (limit : ℕ) (before now : Seen) (input : List ℕ) : Type 0 where
@@ -30,7 +38,7 @@ pub record IsClockIdle (before now : Seen) : Type 0 where
   pub told : now.clock ≡ before.clock
   pub no_fault : now.clock_faults ≡ before.clock_faults
 
--- no call failed
+-- no call of the input, the output or the clock failed
 pub record HasNoFault (before now : Seen) : Type 0 where
   pub read : Rose before.read_faults now.read_faults → ⊥
   pub write : Rose before.write_faults now.write_faults → ⊥
@@ -38,6 +46,9 @@ pub record HasNoFault (before now : Seen) : Type 0 where
 
 -- no count falls
 pub record NeverFalls (before now : Seen) : Type 0 where
+  pub config : before.config_faults ≤ now.config_faults
   pub read : before.read_faults ≤ now.read_faults
   pub write : before.write_faults ≤ now.write_faults
+  pub link : before.link_faults ≤ now.link_faults
   pub clock : before.clock_faults ≤ now.clock_faults
+  pub entropy : before.entropy_faults ≤ now.entropy_faults

@@ -9,7 +9,7 @@ use Rattle.dc_sign.specs.declared.outcome.Refusal.TheVariants.{BadLength}
 use Rattle.line_text.specs.Text.{joined, BreaksOff}
 use Rattle.w32tm_text.specs.Show.{show_lines}
 use Rattle.w32tm_text.specs.declared.status.Status.{Status}
-use Rattle.w32tm_text.specs.declared.status.Status.TheVariants.{Done, BadWords, ReadFault, WriteFault, ClockFault, BadRequest}
+use Rattle.w32tm_text.specs.declared.status.Status.TheVariants.{Done, WriteFault, BadRequest}
 use Rattle.w32tm_cmd.specs.Seen.{Seen}
 
 -- the lines of the message that the bytes spell were written
@@ -37,17 +37,13 @@ pub record RefusesToShow (bytes : List ℕ) (before now : Seen) (reason : Refusa
 -- what each answer of `/show` says
 abbrev pub Shows : List ℕ → Seen → Seen → Status → Type 0
 Shows bytes before now Done = WritesMessage bytes before now
-Shows bytes before now BadWords = ⊥
-Shows bytes before now ReadFault = ⊥
 Shows bytes before now WriteFault = FailsToShow bytes before now
-Shows bytes before now ClockFault = ⊥
 Shows bytes before now (BadRequest reason) = RefusesToShow bytes before now reason
+Shows bytes before now _ = ⊥
 
 -- an answer that `/show` can give
 abbrev pub IsShowAnswer : Status → Type 0
 IsShowAnswer Done = Unit {0}
-IsShowAnswer BadWords = ⊥
-IsShowAnswer ReadFault = ⊥
 IsShowAnswer WriteFault = Unit {0}
-IsShowAnswer ClockFault = ⊥
 IsShowAnswer (BadRequest reason) = reason ≡ BadLength
+IsShowAnswer _ = ⊥

@@ -10,7 +10,7 @@ use Rattle.dc_sign.specs.Readings.{GaveFewer}
 use Rattle.dc_sign.specs.Reply.{refusal_of, IsReplyOf}
 use Rattle.dc_sign.specs.Info.{IsLocalInfo}
 use Rattle.w32tm_text.specs.declared.status.Status.{Status}
-use Rattle.w32tm_text.specs.declared.status.Status.TheVariants.{Done, BadWords, ReadFault, WriteFault, ClockFault, BadRequest}
+use Rattle.w32tm_text.specs.declared.status.Status.TheVariants.{Done, ReadFault, WriteFault, ClockFault, BadRequest}
 use Rattle.w32tm_cmd.specs.Seen.{Seen, ReadsInput, IsOutIdle, IsClockIdle}
 
 -- the most bytes that are read of a request, one more than a datagram holds
@@ -78,27 +78,27 @@ pub record FailsToTell (before now : Seen) : Type 0 where
 -- what each answer of `/sign` says
 abbrev pub Signs : Account → Seen → Seen → Status → Type 0
 Signs account before now Done = Replies account before now
-Signs account before now BadWords = ⊥
 Signs account before now ReadFault = FailsToRead request_limit before now
 Signs account before now WriteFault = FailsToReply account before now
 Signs account before now ClockFault = FailsToTell before now
 Signs account before now (BadRequest reason) = Refuses account before now reason
+Signs account before now _ = ⊥
 
 -- The bytes on the input decide: the answer is a refusal exactly for the reason that they give, unless a read or a
 -- reading failed first.
 abbrev pub DecidesBy : Account → List ℕ → Status → Type 0
 DecidesBy account bytes Done = refusal_of (account ∷ []) bytes ≡ None
-DecidesBy account bytes BadWords = ⊥
 DecidesBy account bytes ReadFault = Unit {0}
 DecidesBy account bytes WriteFault = refusal_of (account ∷ []) bytes ≡ None
 DecidesBy account bytes ClockFault = Unit {0}
 DecidesBy account bytes (BadRequest reason) = refusal_of (account ∷ []) bytes ≡ Some reason
+DecidesBy account bytes _ = ⊥
 
 -- an answer that `/sign` can give
 abbrev pub IsSignAnswer : Status → Type 0
 IsSignAnswer Done = Unit {0}
-IsSignAnswer BadWords = ⊥
 IsSignAnswer ReadFault = Unit {0}
 IsSignAnswer WriteFault = Unit {0}
 IsSignAnswer ClockFault = Unit {0}
 IsSignAnswer (BadRequest reason) = Unit {0}
+IsSignAnswer _ = ⊥

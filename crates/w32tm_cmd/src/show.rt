@@ -7,16 +7,16 @@ ghost use Rattle.w32tm_text.specs.declared.status.Status.TheVariants.{BadRequest
 use crate::writing::write_lines;
 use crate::{Outside, Status, Tells};
 use dc_sign::Refusal;
-use edge_io::{Clock, Put, Sink, Source};
+use edge_io::{Clock, Entropy, Link, Put, Sink, Source};
 use ms_auth::read_packet;
 use w32tm_text::show_lines;
 
 /// Writes the lines of the message that the bytes spell, each in one write.
-pub(crate) fn show_message<S: Source, O: Sink, C: Clock>(
+pub(crate) fn show_message<S: Source, O: Sink, L: Link, C: Clock, E: Entropy>(
     bytes: &[u8],
-    outside: &mut Outside<S, O, C>,
+    outside: &mut Outside<S, O, L, C, E>,
 ) -> Status
-    ensures show { let seen = ⟦<Outside<S, O, C> as Tells>⟧.seen in
+    ensures show { let seen = ⟦<Outside<S, O, L, C, E> as Tells>⟧.seen in
         Shows bytes.now (seen outside.old) (seen outside.new) result }
 
     // What each answer leaves as it was.

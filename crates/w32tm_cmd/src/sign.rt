@@ -6,7 +6,7 @@ ghost use Rattle.w32tm_text.specs.declared.status.Status.TheVariants.{BadRequest
 
 use crate::{Outside, Status, Tells};
 use dc_sign::{Answer, ServerInfo, answer, two_readings};
-use edge_io::{Clock, DATAGRAM_LEN, Filled, Put, Sink, Source, fill_front};
+use edge_io::{Clock, DATAGRAM_LEN, Entropy, Filled, Link, Put, Sink, Source, fill_front};
 use key_book::Account;
 
 /// The most bytes that are read of a request: one more than a datagram holds, so that a longer input is
@@ -14,11 +14,11 @@ use key_book::Account;
 const INPUT_LEN: usize = DATAGRAM_LEN + 1;
 
 /// Reads the request, then the clock twice, and writes the reply under the account in one write.
-pub(crate) fn sign_request<S: Source, O: Sink, C: Clock>(
+pub(crate) fn sign_request<S: Source, O: Sink, L: Link, C: Clock, E: Entropy>(
     account: &Account,
-    outside: &mut Outside<S, O, C>,
+    outside: &mut Outside<S, O, L, C, E>,
 ) -> Status
-    ensures sign { let seen = ⟦<Outside<S, O, C> as Tells>⟧.seen in
+    ensures sign { let seen = ⟦<Outside<S, O, L, C, E> as Tells>⟧.seen in
         Signs account.now (seen outside.old) (seen outside.new) result }
 
     // What each answer leaves as it was.

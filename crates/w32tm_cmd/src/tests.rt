@@ -1,17 +1,15 @@
-//! Whole runs of the top call over devices in memory.
-ghost use Rattle.std.specs.Prelude.{◌<◌, All, IfOk};
+//! Whole runs of the top call over devices in memory: those of `/sign` and `/show`.
+mod dc;
+mod devices;
+mod monitor;
+mod replay;
+mod settings;
 
-use crate::{Outside, Status, w32tm};
+use crate::Status;
+use crate::tests::devices::{LATER, NEW_YEAR, STEADY, Script, run};
 use dc_sign::Refusal;
-use edge_io::{Clock, Filled, Reading, ScriptClock, ScriptSink, ScriptSource, fill_front};
-use std::alloc::{AllocError, Global};
+use edge_io::Reading;
 use std::test::Fail;
-
-// 1 January 2020, in ticks.
-const NEW_YEAR: i64 = 132_223_104_000_000_000;
-
-// What the clock gives after it.
-const LATER: i64 = NEW_YEAR + 10_000;
 
 const WORD: &str = "/sign:1103:00000000000000000000000000000000";
 
@@ -37,87 +35,6 @@ const REPLY: [u8; 68] = [
     0xE1, 0xB6, 0x5F, 0x80, 0x00, 0x41, 0x89, 0x38, 0x4F, 0x04, 0x00, 0x00, 0xA1, 0xED, 0x97, 0xBF,
     0x99, 0x6D, 0x9C, 0xD9, 0x4E, 0x95, 0xA2, 0xAE, 0x0F, 0x55, 0x9A, 0x86,
 ];
-
-/// What the devices do: the sizes of the input's pieces, the calls of each device that fail, and the room of
-/// the output.
-#[derive(Clone, Copy)]
-struct Script<'a> {
-    pieces: &'a [usize],
-    failing_reads: &'a [u64],
-    failing_readings: &'a [u64],
-    failing_writes: &'a [u64],
-    room: usize,
-}
-
-// Devices of which no call fails.
-const STEADY: Script<'static> = Script {
-    pieces: &[30],
-    failing_reads: &[],
-    failing_readings: &[],
-    failing_writes: &[],
-    room: 1000,
-};
-
-/// How a run ended: its status, the bytes written, how many of the input are left, and what the clock gives
-/// next.
-#[derive(Drop)]
-struct Ran {
-    status: Status,
-    written: Vec<u8>,
-    left: usize,
-    next: Reading,
-}
-
-/// The sizes among these that aren't 0.
-fn sizes_of(alloc: Global, numbers: &[usize]) -> Result<Vec<usize>, AllocError>
-    ensures { IfOk result (λ sizes. All (λ size. 0 < size) sizes.items) }
-{
-    numbers
-        .iter()
-        .copied()
-        .filter(|size| *size > 0)
-        .collect(alloc)
-}
-
-fn words_of(alloc: Global, texts: &[&str]) -> Result<Vec<String>, AllocError> {
-    let mut words = Vec::new(alloc);
-    for text in texts {
-        words.push(String::from_str(alloc, text)?)?;
-    }
-    Ok(words)
-}
-
-fn run(alloc: Global, texts: &[&str], input: &[u8], script: &Script) -> Result<Ran, Fail> {
-    let words = words_of(alloc, texts)?;
-    let mut outside = Outside {
-        capture_in: ScriptSource::new(
-            alloc,
-            input.to_vec(alloc)?,
-            sizes_of(alloc, script.pieces)?,
-            script.failing_reads.to_vec(alloc)?,
-            0,
-        )?,
-        out: ScriptSink::new(alloc, script.failing_writes.to_vec(alloc)?, script.room)?,
-        clock: ScriptClock::new(
-            alloc,
-            [NEW_YEAR, LATER].to_vec(alloc)?,
-            script.failing_readings.to_vec(alloc)?,
-            0,
-        )?,
-    };
-    let status = w32tm(alloc, &words, &mut outside);
-    let mut rest = [0; 512];
-    let left = match fill_front(&mut outside.capture_in, &mut rest) {
-        Filled::Bytes(count) => count,
-        Filled::Failed => 512,
-    };
-    Ok(Ran {
-        status,
-        written: outside.out.bytes().to_vec(alloc)?,
-        left,
-        next: outside.clock.now(),
-    })
-}
 
 #[test]
 fn signs_the_sample_request(rt: HostRuntime) -> Result<(), Fail> {
@@ -316,13 +233,19 @@ fn other_lengths_are_bad(rt: HostRuntime) -> Result<(), Fail> {
 }
 
 // Words that spell no command.
-const BAD_WORDS: [&[&str]; 6] = [
+const BAD_WORDS: [&[&str]; 12] = [
     &[],
     &["/show:0"],
     &["/sign:01103:00000000000000000000000000000000"],
     &["/sign:1103:00000000000000000000000000000000:"],
     &[WORD, ""],
     &[WORD, WORD],
+    &["/dc:3"],
+    &["/dc:0", "/config:c"],
+    &["/dc:1000001", "/config:c"],
+    &["/monitor"],
+    &["/replay"],
+    &["/replay", "/config:c", "/port:123"],
 ];
 
 /// The calls that fail, of reads, of readings and of writes, and the room of the output; then the status, the

@@ -1,8 +1,10 @@
-use Rattle.std.proofs.Common.{◌≡◌, refl}
-use Rattle.w32tm_text.specs.declared.words.Action.TheVariants.{Sign, Show}
+use Rattle.std.proofs.Common.{◌≡◌, inl, refl}
+use Rattle.w32tm_text.specs.declared.words.Action.TheVariants.{Sign, Show, Dc, Monitor, Replay}
 use Rattle.w32tm_cmd.proofs.Commands.{is_read, same_action}
 use Rattle.w32tm_cmd.proofs.Showing.{refused_length, length_refused}
 use Rattle.w32tm_cmd.proofs.Signing.{decides_by, completes, completes_refused}
+use Rattle.w32tm_cmd.proofs.Controlling as controlling
+use Rattle.w32tm_cmd.proofs.Monitoring as monitoring
 use Rattle.w32tm_cmd.proofs.run.w32tm.Goals as goal
 
 -- words that spell a command are read
@@ -39,6 +41,24 @@ returns-in-Err-clause-show_bad_length g c bytes is_show = absurd (is_read (Show 
 pub returns-in-Err-clause-show_complete : goal.returns-in-Err-clause-show_complete
 returns-in-Err-clause-show_complete g c bytes is_show none message = absurd (is_read (Show bytes) _ _ is_show c.in-Err.ensures.found)
 
+pub returns-in-Err-clause-dc : goal.returns-in-Err-clause-dc
+returns-in-Err-clause-dc g c turns is_dc = absurd (is_read (Dc turns) _ _ is_dc c.in-Err.ensures.found)
+
+pub returns-in-Err-clause-dc_touches : goal.returns-in-Err-clause-dc_touches
+returns-in-Err-clause-dc_touches g c turns is_dc = absurd (is_read (Dc turns) _ _ is_dc c.in-Err.ensures.found)
+
+pub returns-in-Err-clause-monitor : goal.returns-in-Err-clause-monitor
+returns-in-Err-clause-monitor g c is_monitor = absurd (is_read Monitor _ _ is_monitor c.in-Err.ensures.found)
+
+pub returns-in-Err-clause-monitor_touches : goal.returns-in-Err-clause-monitor_touches
+returns-in-Err-clause-monitor_touches g c is_monitor = absurd (is_read Monitor _ _ is_monitor c.in-Err.ensures.found)
+
+pub returns-in-Err-clause-replay : goal.returns-in-Err-clause-replay
+returns-in-Err-clause-replay g c is_replay = absurd (is_read Replay _ _ is_replay c.in-Err.ensures.found)
+
+pub returns-in-Err-clause-replay_touches : goal.returns-in-Err-clause-replay_touches
+returns-in-Err-clause-replay_touches g c is_replay = absurd (is_read Replay _ _ is_replay c.in-Err.ensures.found)
+
 -- `/sign` was carried out for the account of the words
 pub returns-in-Sign-clause-sign : goal.returns-in-Sign-clause-sign
 returns-in-Sign-clause-sign g c account is_sign =
@@ -72,3 +92,17 @@ pub returns-in-Show-clause-show_bad_length : goal.returns-in-Show-clause-show_ba
 returns-in-Show-clause-show_bad_length g c bytes is_show =
     let shows = returns-in-Show-clause-show g c bytes is_show in
     (refused_length bytes _ _ c.show_message.result shows, length_refused bytes _ _ c.show_message.result shows)
+
+-- `/dc` for the turns of the words
+pub returns-in-Dc-clause-dc : goal.returns-in-Dc-clause-dc
+returns-in-Dc-clause-dc g c turns is_dc =
+    let action = same_action (Dc turns) _ c.in-Ok.command is_dc c.in-Ok.ensures.found in
+    let same : c.in-Dc.turns ≡ turns = cc (action, c.in-Dc.is) in
+    rw same at c.serve_requests.ensures.dc
+
+-- whose count a read that failed raised
+pub returns-in-Dc-clause-read_fault : goal.returns-in-Dc-clause-read_fault
+returns-in-Dc-clause-read_fault g c is = inl (controlling.read_cause _ _ _ _ (c.serve_requests.ensures.dc).runs is)
+
+pub returns-in-Monitor-clause-read_fault : goal.returns-in-Monitor-clause-read_fault
+returns-in-Monitor-clause-read_fault g c is = inl (monitoring.read_cause _ _ _ (c.ask_computers.ensures.monitor).runs is)

@@ -1,0 +1,41 @@
+-- What follows from a run of `/dc` for each answer.
+use Rattle.std.proofs.Common.{◌≡◌, ℕ, inl, inr, refl}
+use Rattle.base_specs.specs.Counts.{Rose}
+use Rattle.w32tm_cmd.specs.Dc.{DcPromise, RunsDc, IsDcComplete}
+use Rattle.w32tm_cmd.specs.Config.{IsBadConfigExact, StopsAtConfig}
+use Rattle.w32tm_cmd.specs.Seen.{Seen}
+use Rattle.w32tm_cmd.proofs.Configuring.{rose, settings_exact, stops_exact, stops_for_memory, stops_read}
+use Rattle.w32tm_text.specs.declared.status.Status.{Status}
+use Rattle.w32tm_text.specs.declared.status.Status.TheVariants.{Done, ReadFault, WriteFault, ClockFault}
+
+exact : (turns : ℕ) (before now : Seen) (result : Status) → RunsDc turns before now result → IsBadConfigExact before result
+exact turns before now Done runs = settings_exact before now runs.served.settings Done runs.served.configured
+exact turns before now WriteFault runs = settings_exact before now runs.served.settings WriteFault runs.served.configured
+exact turns before now ClockFault runs = settings_exact before now runs.served.settings ClockFault runs.served.configured
+exact turns before now status runs = stops_exact before now status runs
+
+complete : (turns : ℕ) (before now : Seen) (result : Status) → RunsDc turns before now result
+    → (result ≡ ClockFault → Rose before.clock_faults now.clock_faults) → IsDcComplete before now result
+complete turns before now Done runs cause bytes settings told says config write clock = inl refl
+complete turns before now WriteFault runs cause bytes settings told says config write clock = absurd (write (rose _ _ runs.cause))
+complete turns before now ClockFault runs cause bytes settings told says config write clock = absurd (clock (cause refl))
+complete turns before now status runs cause bytes settings told says config write clock = inr (stops_for_memory before now settings status bytes told says config runs)
+
+pub promises : (turns : ℕ) (before now : Seen) (result : Status) → RunsDc turns before now result
+    → (result ≡ ClockFault → Rose before.clock_faults now.clock_faults) → DcPromise turns before now result
+promises turns before now result runs cause =
+    record { runs = runs; exact = exact turns before now result runs; complete = complete turns before now result runs cause }
+
+-- a command that got no settings
+pub stopped : (turns : ℕ) (before now : Seen) (result : Status) → StopsAtConfig before now result → DcPromise turns before now result
+stopped turns before now Done stops = absurd stops
+stopped turns before now WriteFault stops = absurd stops
+stopped turns before now ClockFault stops = absurd stops
+stopped turns before now status stops = promises turns before now status stops (λ is. cc is)
+
+-- a read that failed raised its count
+pub read_cause : (turns : ℕ) (before now : Seen) (result : Status) → RunsDc turns before now result → result ≡ ReadFault → Rose before.config_faults now.config_faults
+read_cause turns before now Done runs is = cc is
+read_cause turns before now WriteFault runs is = cc is
+read_cause turns before now ClockFault runs is = cc is
+read_cause turns before now status runs is = stops_read before now status runs is

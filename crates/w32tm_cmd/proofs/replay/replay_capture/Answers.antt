@@ -1,0 +1,101 @@
+use Rattle.std.proofs.Common.{refl, inl, inr}
+use Rattle.replay_run.specs.declared.end.ReplayWhy.TheVariants as why
+use Rattle.w32tm_cmd.proofs.Configuring.{stops}
+use Rattle.w32tm_cmd.proofs.Replaying.{judged, partnerless, stopped}
+use Rattle.w32tm_cmd.proofs.replay.replay_capture.Goals as goal
+
+-- no settings
+pub returns-in-Err-clause-replay : goal.returns-in-Err-clause-replay
+returns-in-Err-clause-replay g c =
+    rw c.status_of.ensures (stopped _ _ _ (stops _ _ c.in-Err.fault c.in-Err.ensures.reads refl))
+
+-- no candidate
+pub returns-in-Err-NoPartner-clause-replay : goal.returns-in-Err-NoPartner-clause-replay
+returns-in-Err-NoPartner-clause-replay g c =
+    let is_none = c.in-Err-NoPartner.field-0-is in
+    partnerless _ _ (record {
+      settings = c.in-Ok.settings;
+      configured = c.in-Ok.ensures.reads;
+      none = c.in-Err-NoPartner.ensures.no_partner.0 (cc is_none);
+      alone = refl;
+    }) (λ conf is. elim (c.in-Err-NoPartner.ensures.exact conf is) [
+      | inl wrong ↦ cc wrong
+      | inr wrong ↦ cc (wrong, is_none)
+    ])
+
+-- each end of the replay
+pub returns-in-Done-clause-replay : goal.returns-in-Done-clause-replay
+returns-in-Done-clause-replay g c = judged _ _ why.Done (record {
+  settings = c.in-Ok.settings;
+  conf = c.in-Ok-conf_of.conf;
+  end = c.replay.result;
+  configured = c.in-Ok.ensures.reads;
+  is_conf = c.in-Ok-conf_of.ensures.answer;
+  replays = c.replay.ensures.replays;
+  ended = c.in-Done.is;
+  others = refl;
+}) (record {
+  some = λ none. let wrong = c.in-Ok-conf_of.ensures.no_partner.1 none in cc wrong;
+  one = λ other is. c.in-Ok-conf_of.ensures.one _ other c.in-Ok-conf_of.ensures.answer is;
+  exact = c.replay.ensures.exact;
+  complete = c.replay.ensures.complete;
+  read_cause = c.replay.ensures.read_cause;
+  write_cause = c.replay.ensures.write_cause;
+})
+
+pub returns-in-BadCapture-clause-replay : goal.returns-in-BadCapture-clause-replay
+returns-in-BadCapture-clause-replay g c = judged _ _ (why.BadCapture c.in-BadCapture.at) (record {
+  settings = c.in-Ok.settings;
+  conf = c.in-Ok-conf_of.conf;
+  end = c.replay.result;
+  configured = c.in-Ok.ensures.reads;
+  is_conf = c.in-Ok-conf_of.ensures.answer;
+  replays = c.replay.ensures.replays;
+  ended = c.in-BadCapture.is;
+  others = refl;
+}) (record {
+  some = λ none. let wrong = c.in-Ok-conf_of.ensures.no_partner.1 none in cc wrong;
+  one = λ other is. c.in-Ok-conf_of.ensures.one _ other c.in-Ok-conf_of.ensures.answer is;
+  exact = c.replay.ensures.exact;
+  complete = c.replay.ensures.complete;
+  read_cause = c.replay.ensures.read_cause;
+  write_cause = c.replay.ensures.write_cause;
+})
+
+pub returns-in-ReadFault-clause-replay : goal.returns-in-ReadFault-clause-replay
+returns-in-ReadFault-clause-replay g c = judged _ _ why.ReadFault (record {
+  settings = c.in-Ok.settings;
+  conf = c.in-Ok-conf_of.conf;
+  end = c.replay.result;
+  configured = c.in-Ok.ensures.reads;
+  is_conf = c.in-Ok-conf_of.ensures.answer;
+  replays = c.replay.ensures.replays;
+  ended = c.in-ReadFault.is;
+  others = refl;
+}) (record {
+  some = λ none. let wrong = c.in-Ok-conf_of.ensures.no_partner.1 none in cc wrong;
+  one = λ other is. c.in-Ok-conf_of.ensures.one _ other c.in-Ok-conf_of.ensures.answer is;
+  exact = c.replay.ensures.exact;
+  complete = c.replay.ensures.complete;
+  read_cause = c.replay.ensures.read_cause;
+  write_cause = c.replay.ensures.write_cause;
+})
+
+pub returns-clause-replay : goal.returns-clause-replay
+returns-clause-replay g c = judged _ _ why.WriteFault (record {
+  settings = c.in-Ok.settings;
+  conf = c.in-Ok-conf_of.conf;
+  end = c.replay.result;
+  configured = c.in-Ok.ensures.reads;
+  is_conf = c.in-Ok-conf_of.ensures.answer;
+  replays = c.replay.ensures.replays;
+  ended = c.in-WriteFault.is;
+  others = refl;
+}) (record {
+  some = λ none. let wrong = c.in-Ok-conf_of.ensures.no_partner.1 none in cc wrong;
+  one = λ other is. c.in-Ok-conf_of.ensures.one _ other c.in-Ok-conf_of.ensures.answer is;
+  exact = c.replay.ensures.exact;
+  complete = c.replay.ensures.complete;
+  read_cause = c.replay.ensures.read_cause;
+  write_cause = c.replay.ensures.write_cause;
+})

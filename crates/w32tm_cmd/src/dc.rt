@@ -1,0 +1,40 @@
+//! The command `/dc`: a controller answers and signs what comes over the link.
+ghost use Rattle.std.specs.Prelude.{◌≡◌};
+ghost use Rattle.w32tm_cmd.specs.Dc.{DcPromise};
+ghost use Rattle.w32tm_cmd.specs.Seen.{NeverFalls};
+ghost use Rattle.w32tm_cmd.specs.Touching.{DcTouches};
+
+use crate::config::status_of;
+use crate::writing::write_lines;
+use crate::{Outside, Status, Tells};
+use dc_sign::{ServeWhy, serve};
+use edge_io::{Clock, Entropy, Link, Put, Sink, Source};
+use settings_source::settings_from;
+use std::alloc::Global;
+use w32tm_text::dc_lines;
+
+/// Reads the settings, serves so many turns with their accounts, and writes the closing lines, each in one write.
+pub(crate) fn serve_requests<S: Source, O: Sink, L: Link, C: Clock, E: Entropy>(
+    alloc: Global,
+    turns: u32,
+    outside: &mut Outside<S, O, L, C, E>,
+) -> Status
+    ensures dc { let seen = ⟦<Outside<S, O, L, C, E> as Tells>⟧.seen in
+        DcPromise turns (seen outside.old) (seen outside.new) result }
+    ensures touches { DcTouches outside.old outside.new result }
+    ensures counts { let seen = ⟦<Outside<S, O, L, C, E> as Tells>⟧.seen in
+        NeverFalls (seen outside.old) (seen outside.new) }
+{
+    let settings = match settings_from(alloc, &mut outside.config) {
+        Ok(settings) => settings,
+        Err(fault) => return status_of(fault),
+    };
+    let end = serve(turns, &mut outside.link, &mut outside.clock, &settings.book);
+    match end.why {
+        ServeWhy::ClockFault => Status::ClockFault,
+        ServeWhy::Done => match write_lines(&mut outside.out, &dc_lines(&end)) {
+            Put::Done => Status::Done,
+            Put::Failed => Status::WriteFault,
+        },
+    }
+}

@@ -1,0 +1,43 @@
+//! The command `/monitor`: every computer of the settings is asked how far its clock is.
+ghost use Rattle.std.specs.Prelude.{◌≡◌};
+ghost use Rattle.w32tm_cmd.specs.Config.{status_of};
+ghost use Rattle.w32tm_cmd.specs.Monitor.{MonitorPromise};
+ghost use Rattle.w32tm_cmd.specs.Seen.{NeverFalls};
+ghost use Rattle.w32tm_cmd.specs.Touching.{MonitorTouches};
+
+use crate::config::status_of;
+use crate::{Outside, Status, Tells};
+use edge_io::{Clock, Entropy, Link, Sink, Source};
+use monitor_run::{MonitorWhy, monitor};
+use settings_source::settings_from;
+use std::alloc::Global;
+
+/// Reads the settings, and asks the computers of their directory in its order.
+pub(crate) fn ask_computers<S: Source, O: Sink, L: Link, C: Clock, E: Entropy>(
+    alloc: Global,
+    outside: &mut Outside<S, O, L, C, E>,
+) -> Status
+    ensures monitor { let seen = ⟦<Outside<S, O, L, C, E> as Tells>⟧.seen in
+        MonitorPromise (seen outside.old) (seen outside.new) result }
+    ensures touches { MonitorTouches outside.old outside.new result }
+    ensures counts { let seen = ⟦<Outside<S, O, L, C, E> as Tells>⟧.seen in
+        NeverFalls (seen outside.old) (seen outside.new) }
+{
+    let settings = match settings_from(alloc, &mut outside.config) {
+        Ok(settings) => settings,
+        Err(fault) => return status_of(fault),
+    };
+    let why = monitor(
+        &settings.directory,
+        &mut outside.link,
+        &mut outside.clock,
+        &mut outside.entropy,
+        &mut outside.out,
+    );
+    match why {
+        MonitorWhy::Done => Status::Done,
+        MonitorWhy::ClockFault => Status::ClockFault,
+        MonitorWhy::EntropyFault => Status::EntropyFault,
+        MonitorWhy::WriteFault => Status::WriteFault,
+    }
+}

@@ -1,0 +1,51 @@
+//! The command `/replay`: a member is stepped through a capture.
+ghost use Rattle.std.specs.Prelude.{◌≡◌, ◌⊎◌};
+ghost use Rattle.base_specs.specs.Counts.{Rose};
+ghost use Rattle.w32tm_cmd.specs.Config.{status_of};
+ghost use Rattle.w32tm_cmd.specs.Replay.{ReplayPromise};
+ghost use Rattle.w32tm_cmd.specs.Seen.{NeverFalls};
+ghost use Rattle.w32tm_cmd.specs.Touching.{ReplayTouches};
+
+use crate::config::status_of;
+use crate::{Outside, Status, Tells};
+use edge_io::{Clock, Entropy, Link, Sink, Source};
+use replay_run::{ReplayWhy, replay};
+use settings_source::settings_from;
+use std::alloc::Global;
+use w32tm_text::{ConfFault, conf_of};
+
+/// Reads the settings, and steps a new member of theirs through the capture.
+pub(crate) fn replay_capture<S: Source, O: Sink, L: Link, C: Clock, E: Entropy>(
+    alloc: Global,
+    outside: &mut Outside<S, O, L, C, E>,
+) -> Status
+    ensures replay { let seen = ⟦<Outside<S, O, L, C, E> as Tells>⟧.seen in
+        ReplayPromise (seen outside.old) (seen outside.new) result }
+    ensures read_cause { let seen = ⟦<Outside<S, O, L, C, E> as Tells>⟧.seen in
+        result ≡ Status.ReadFault
+        → Rose (seen outside.old).config_faults (seen outside.new).config_faults
+        ⊎ Rose (seen outside.old).read_faults (seen outside.new).read_faults }
+    ensures touches { ReplayTouches outside.old outside.new result }
+    ensures config_fault { let seen = ⟦<Outside<S, O, L, C, E> as Tells>⟧.seen in
+        result ≡ Status.ReadFault
+        → ¬ Rose (seen outside.old).read_faults (seen outside.new).read_faults
+        → outside.new ≡ record outside.old { config = outside.new.config } }
+    ensures counts { let seen = ⟦<Outside<S, O, L, C, E> as Tells>⟧.seen in
+        NeverFalls (seen outside.old) (seen outside.new) }
+{
+    let settings = match settings_from(alloc, &mut outside.config) {
+        Ok(settings) => settings,
+        Err(fault) => return status_of(fault),
+    };
+    let conf = match conf_of(alloc, &settings) {
+        Ok(conf) => conf,
+        Err(ConfFault::NoPartner) => return Status::NoPartner,
+        Err(ConfFault::NoMemory) => return Status::NoMemory,
+    };
+    match replay(conf, &mut outside.capture_in, &mut outside.out).why {
+        ReplayWhy::Done => Status::Done,
+        ReplayWhy::BadCapture(at) => Status::BadCapture { at },
+        ReplayWhy::ReadFault => Status::ReadFault,
+        ReplayWhy::WriteFault => Status::WriteFault,
+    }
+}
