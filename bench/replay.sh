@@ -1,0 +1,74 @@
+#!/bin/bash
+# What `/replay` makes of a long capture: events and megabytes per second, beside `cat` of the same file, and how much
+# memory it had at most. The capture is made here: a life, and then again and again a request, a forged reply to it and
+# ten stray bytes, which are refused. Of five runs the fastest counts, by the clock on the wall.
+# Needs python3, GNU time and the built program: `rt run` in crates/w32tm leaves it in crates/w32tm/out/w32tm.
+set -u
+cd "$(dirname "$0")/.." || exit 1
+program=crates/w32tm/out/w32tm
+config=examples/member.conf
+requests=${1:-33333}
+events=$((3 * requests + 1))
+for tool in "$program" /usr/bin/time; do
+    [ -x "$tool" ] || { echo "bench/replay.sh: $tool is missing (the program: rt run in crates/w32tm)" >&2; exit 1; }
+done
+folder=$(mktemp -d) || exit 1
+trap 'rm -rf "$folder"' EXIT
+capture=$folder/capture
+
+# The requests come at the shortest interval of the settings, and go to another of the three partners after each eight.
+python3 - "$requests" >"$capture" <<'END' || exit 1
+import struct
+import sys
+
+BEGIN = 132_223_104_000_000_000
+INTERVAL = 1024 * 10_000_000
+PARTNERS = [bytes([10, 0, 0, last]) for last in (2, 1, 3)]
+
+
+def arrive(now, partner, datagram):
+    return b"\x04" + struct.pack(">q", now) + partner + struct.pack(">HH", 123, len(datagram)) + datagram
+
+
+def forged(count):
+    stamp = struct.pack(">II", count, count)
+    header = b"\x1c\x01\x0a\xe9" + bytes(8) + b"LOCL" + bytes(8) + stamp + bytes(16)
+    return header + struct.pack("<I", 1103) + bytes(16)
+
+
+out = sys.stdout.buffer
+out.write(b"\x01W32T" + struct.pack(">qI", BEGIN, 0))
+for count in range(1, int(sys.argv[1]) + 1):
+    now = BEGIN + count * INTERVAL
+    partner = PARTNERS[(count - 1) // 8 % 3]
+    out.write(b"\x02" + struct.pack(">qI", now, count))
+    out.write(arrive(now + 10_000, partner, forged(count)))
+    out.write(arrive(now + 20_000, partner, bytes(10)))
+END
+
+replay() { "$program" /replay "/config:$config" "/capture:$capture"; }
+last=$(replay | tail -n 1)
+if [ "$last" != "total sent=$requests moved=0 refused=$((2 * requests))" ]; then
+    echo "bench/replay.sh: the replay ended otherwise: $last" >&2
+    exit 1
+fi
+
+# Microseconds of the fastest of five runs.
+microseconds() {
+    local least=0 begin took
+    for _ in 1 2 3 4 5; do
+        begin=$(date +%s%N)
+        "$@" >/dev/null || { echo "bench/replay.sh: a run failed" >&2; exit 1; }
+        took=$((($(date +%s%N) - begin) / 1000))
+        if [ "$least" = 0 ] || [ "$took" -lt "$least" ]; then least=$took; fi
+    done
+    echo "$least"
+}
+took=$(microseconds replay) || exit 1
+cat=$(microseconds cat "$capture") || exit 1
+memory=$(/usr/bin/time -f %M "$program" /replay "/config:$config" "/capture:$capture" 2>&1 >/dev/null) || exit 1
+awk -v t="$took" -v c="$cat" -v e="$events" -v b="$(stat -c %s "$capture")" -v m="$memory" 'BEGIN {
+    printf "%d events, %d bytes\n", e, b
+    printf "replay: %d events a second, %.1f MB/s, %d kB of memory at most\n", e * 1e6 / t, b / t, m
+    printf "cat:    %.1f MB/s, %.0f times as fast\n", b / c, t / c
+}'

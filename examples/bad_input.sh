@@ -1,0 +1,117 @@
+#!/bin/bash
+# What the commands say where words, settings, files or ports are wrong: code and line of each case beside what
+# docs/PROTOCOL.md has. Nothing leaves the machine, and it ends by itself.
+# Needs the built program: `rt run` in crates/w32tm leaves it in crates/w32tm/out/w32tm.
+set -u
+cd "$(dirname "$0")/.." || exit 1
+program=crates/w32tm/out/w32tm
+if [ ! -x "$program" ]; then
+    echo "bad_input.sh: build the program first (rt run in crates/w32tm)" >&2
+    exit 1
+fi
+folder=$(mktemp -d) || exit 1
+trap 'jobs -pr | xargs -r kill; rm -rf "$folder"' EXIT
+failed=0 cases=0
+
+# A case: the code, the line on standard error, the last line on standard output, and the words.
+says() {
+    local code=$1 fault=$2 last=$3 got
+    shift 3
+    cases=$((cases + 1))
+    "$program" "$@" >"$folder/out" 2>"$folder/fault" </dev/null
+    got="code $?, '$(cat "$folder/fault")', '$(tail -n 1 "$folder/out")'"
+    if [ "$got" != "code $code, '$fault', '$last'" ]; then
+        echo "bad_input.sh: $*: $got, and not code $code, '$fault', '$last'" >&2
+        failed=1
+    fi
+}
+bad_words() { says 1 "w32tm: bad words" "" "$@"; }
+
+# A text of settings that are right, and with other lines behind them.
+settings() { printf '%s\n' Name=DC1 Role=Pdc Rid=1001 "account 1001 00112233445566778899aabbccddeeff" "$@"; }
+settings >"$folder/dc.conf"
+config=/config:$folder/dc.conf
+
+# Words.
+bad_words
+for word in "" /dc /dc: /dc:0 /dc:01 /dc:+1 /dc:1000001 /dc:1x /DC:1 dc:1 /monitor: /monitor:1 /replay: /help --help; do
+    bad_words "$word" "$config"
+done
+for option in /port:0 /port:00123 /port:65536 /port:+5 /port: /port /capture:x /rpcport:1 "$config" /config /x ""; do
+    bad_words /dc:1 "$config" "$option"
+    bad_words /monitor "$config" "$option"
+done
+for option in /port:12300 "$config" /capture: /capture /x; do bad_words /replay "$config" "$option"; done
+bad_words /replay "$config" "/capture:$folder/x" "/capture:$folder/x"
+for command in /dc:1 /monitor /replay; do
+    bad_words $command
+    bad_words $command /config:
+    bad_words "$config" $command
+done
+bad_words /dc:1 /port:12300
+bad_words /dc:1 "$config" $'/port:1\xff'
+
+# Settings, by each command that reads them.
+mkdir "$folder/folder"
+printf 'Name=DC1\nRole=Chief\n' >"$folder/role"
+settings Name=DC2 >"$folder/twice"
+settings "computer A 10.0.0.1:123 S--E " >"$folder/blank"
+settings MinPollInterval=7 MaxPollInterval=6 >"$folder/polls"
+settings | sed '4d' >"$folder/account"
+settings | tr '\n' '\r' >"$folder/returns"
+# As many bytes as a text may have, by comments, and one more.
+(settings; head -c 16777216 /dev/zero | tr '\0' '#' | fold -w 255) | head -c 16777216 >"$folder/most"
+(cat "$folder/most"; printf '#') >"$folder/more"
+lines=$(grep -c '' "$folder/more")
+for command in /dc:1 /monitor /replay; do
+    for file in missing folder missing/dc.conf; do
+        says 4 "w32tm: read fault" "" $command "/config:$folder/$file"
+    done
+    says 2 "w32tm: bad settings at line 1" "" $command /config:/dev/null
+    says 2 "w32tm: bad settings at line 2" "" $command "/config:$folder/role"
+    says 2 "w32tm: bad settings at line 5" "" $command "/config:$folder/twice"
+    says 2 "w32tm: bad settings at line 5" "" $command "/config:$folder/blank"
+    says 2 "w32tm: bad settings at line 7" "" $command "/config:$folder/polls"
+    says 2 "w32tm: bad settings at line 4" "" $command "/config:$folder/account"
+    says 2 "w32tm: bad settings at line 1" "" $command "/config:$folder/returns"
+    says 2 "w32tm: bad settings at line $lines" "" $command "/config:$folder/more"
+done
+says 11 "w32tm: no partner" "" /replay "/config:$folder/most"
+if [ "$(id -u)" != 0 ]; then
+    chmod 0 "$folder/twice"
+    says 4 "w32tm: read fault" "" /dc:1 "/config:$folder/twice"
+fi
+
+# A port that somebody has: every receive fails, and `/dc` takes its turns all the same.
+is_taken() { grep -q "$(printf ':%04X ' "$1")" /proc/net/udp; }
+port=12300
+while is_taken $port; do port=$((port + 1)); done
+"$program" /dc:5 "$config" "/port:$port" >"$folder/first" &
+for _ in $(seq 100); do is_taken $port && break; sleep 0.02; done
+says 0 "" "link quiet=0 lost=1000 unsent=0" /dc:1000 "$config" "/port:$port"
+settings "computer DC1 127.0.0.1:$port S--E" >"$folder/one"
+says 0 "" "total computers=1 answered=0" /monitor "/config:$folder/one" "/port:$port"
+wait $!
+
+# A directory without computers, captures that can't be had, and an output that takes nothing.
+says 0 "" "total computers=0 answered=0" /monitor "$config"
+says 11 "w32tm: no partner" "" /replay "$config"
+says 11 "w32tm: no partner" "" /replay "$config" "/capture:$folder/missing"
+member=/config:examples/member.conf
+says 0 "" "total sent=0 moved=0 refused=0" /replay "$member"
+says 0 "" "total sent=0 moved=0 refused=0" /replay "/capture:/dev/null" "$member"
+says 4 "w32tm: read fault" "" /replay "$member" "/capture:$folder/missing"
+says 4 "w32tm: read fault" "" /replay "$member" "/capture:$folder/folder"
+says 3 "w32tm: bad capture at byte 0" "" /replay "$member" /capture:examples/member.conf
+for words in "/dc:1 $config /port:$port" "/monitor $config" "/replay $member"; do
+    cases=$((cases + 1))
+    $program $words >/dev/full 2>"$folder/fault" </dev/null
+    code=$?
+    if [ $code != 5 ] || [ "$(cat "$folder/fault")" != "w32tm: write fault" ]; then
+        echo "bad_input.sh: $words: code $code and '$(cat "$folder/fault")' where the output is full" >&2
+        failed=1
+    fi
+done
+
+[ $failed = 0 ] && echo "bad_input.sh: $cases cases, all as they should be"
+exit $failed
