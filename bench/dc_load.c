@@ -21,7 +21,7 @@
 
 enum { HEADER = 48, ORIGINATE = 24, TRANSMIT = 40, LONGEST = 256 };
 
-static const uint64_t PATIENCE = UINT64_C(1000000000);
+static const uint64_t PATIENCE = UINT64_C(5000000000);
 
 static void fail(const char *what)
 {
@@ -94,7 +94,7 @@ static int answers(const unsigned char *reply, ssize_t len, const unsigned char 
                                            memcmp(reply + TRANSMIT, request + TRANSMIT, 4) == 0);
 }
 
-/* The next datagram, or -1 where a second passes without one. */
+/* The next datagram, or -1 where five seconds pass without one. */
 static ssize_t receive(int client, unsigned char *reply, size_t room)
 {
     ssize_t came = recv(client, reply, room, 0);

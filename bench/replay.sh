@@ -1,13 +1,15 @@
 #!/bin/bash
 # What `/replay` makes of a long capture: events and megabytes per second, beside `cat` of the same file, and how much
-# memory it had at most. The capture is made here: a life, and then again and again a request, a forged reply to it and
-# ten stray bytes, which are refused. Of five runs the fastest counts, by the clock on the wall.
+# memory it had at most, there and with a tenth of the requests. The capture is made here: a life, and then again and
+# again a request, a forged reply to it and ten stray bytes, which are refused. Of five runs the fastest counts, by the
+# clock on the wall.
 # Needs python3, GNU time and the built program: `rt run` in crates/w32tm leaves it in crates/w32tm/out/w32tm.
 set -u
 cd "$(dirname "$0")/.." || exit 1
 program=crates/w32tm/out/w32tm
 config=examples/member.conf
 requests=${1:-33333}
+tenth=$((requests / 10))
 events=$((3 * requests + 1))
 for tool in "$program" /usr/bin/time; do
     [ -x "$tool" ] || { echo "bench/replay.sh: $tool is missing (the program: rt run in crates/w32tm)" >&2; exit 1; }
@@ -16,8 +18,10 @@ folder=$(mktemp -d) || exit 1
 trap 'rm -rf "$folder"' EXIT
 capture=$folder/capture
 
-# The requests come at the shortest interval of the settings, and go to another of the three partners after each eight.
-python3 - "$requests" >"$capture" <<'END' || exit 1
+# A capture of so many requests. They come at the shortest interval of the settings, and go to another of the three
+# partners after each eight.
+write_capture() {
+    python3 - "$1" >"$2" <<'END'
 import struct
 import sys
 
@@ -45,13 +49,18 @@ for count in range(1, int(sys.argv[1]) + 1):
     out.write(arrive(now + 10_000, partner, forged(count)))
     out.write(arrive(now + 20_000, partner, bytes(10)))
 END
+}
 
-replay() { "$program" /replay "/config:$config" "/capture:$capture"; }
-last=$(replay | tail -n 1)
-if [ "$last" != "total sent=$requests moved=0 refused=$((2 * requests))" ]; then
-    echo "bench/replay.sh: the replay ended otherwise: $last" >&2
-    exit 1
-fi
+replay() { "$program" /replay "/config:$config" "/capture:$1"; }
+
+# Does the replay of a capture with so many requests end as it has to?
+ends_well() {
+    local last
+    last=$(replay "$2" | tail -n 1)
+    [ "$last" = "total sent=$1 moved=0 refused=$((2 * $1))" ] && return
+    echo "bench/replay.sh: the replay of $1 requests ended otherwise: $last" >&2
+    return 1
+}
 
 # Microseconds of the fastest of five runs.
 microseconds() {
@@ -64,11 +73,20 @@ microseconds() {
     done
     echo "$least"
 }
-took=$(microseconds replay) || exit 1
+# The most memory that the replay of a capture has, in kilobytes. From run to run it differs by up to 250.
+peak() { /usr/bin/time -f %M "$program" /replay "/config:$config" "/capture:$1" 2>&1 >/dev/null; }
+
+write_capture "$requests" "$capture" && ends_well "$requests" "$capture" || exit 1
+write_capture "$tenth" "$capture.tenth" && ends_well "$tenth" "$capture.tenth" || exit 1
+took=$(microseconds replay "$capture") || exit 1
 cat=$(microseconds cat "$capture") || exit 1
-memory=$(/usr/bin/time -f %M "$program" /replay "/config:$config" "/capture:$capture" 2>&1 >/dev/null) || exit 1
-awk -v t="$took" -v c="$cat" -v e="$events" -v b="$(stat -c %s "$capture")" -v m="$memory" 'BEGIN {
+memory=$(peak "$capture") || exit 1
+less=$(peak "$capture.tenth") || exit 1
+awk -v t="$took" -v c="$cat" -v e="$events" -v b="$(stat -c %s "$capture")" -v m="$memory" -v l="$less" \
+    -v n="$((3 * tenth + 1))" -v load="$(cut -d' ' -f1 /proc/loadavg)" 'BEGIN {
     printf "%d events, %d bytes\n", e, b
-    printf "replay: %d events a second, %.1f MB/s, %d kB of memory at most\n", e * 1e6 / t, b / t, m
+    printf "replay: %d events a second, %.1f MB/s\n", e * 1e6 / t, b / t
     printf "cat:    %.1f MB/s, %.0f times as fast\n", b / c, t / c
+    printf "the most memory: %d kB, and %d kB for %d events\n", m, l, n
+    printf "the load of the machine: %s\n", load
 }'
