@@ -26,7 +26,7 @@ impl Model for Book {
 }
 
 impl Book {
-    ghost use Rattle.std.specs.Prelude.{◌≡◌, [], ◌∷◌, ◌++◌, IfOk, OnOk, Ok};
+    ghost use Rattle.std.specs.Prelude.{◌≡◌, [], ◌∷◌, ◌++◌, IfOk, OnErr, OnOk, Ok};
     ghost use Rattle.std.specs.Str.Lines.{lines};
     ghost use Rattle.key_book.specs.AccountBook.{NoneHas};
     ghost use Rattle.key_book.specs.Book.{IsAccount};
@@ -47,7 +47,8 @@ impl Book {
     pub fn add(&mut self, account: Account) -> Result<(), AllocError>
         requires fits { IsAccount account }
         requires fresh { NoneHas self.old account.rid }
-        ensures { OnOk result (self.new ≡ self.old ++ account ∷ []) }
+        ensures ok { OnOk result (self.new ≡ self.old ++ account ∷ []) }
+        ensures err { OnErr result (self.new ≡ self.old) }
     {
         self.accounts.push(account)?;
         Ok(())

@@ -28,5 +28,5 @@ returns-in-Ok c items h =
       seen = c.requires.seen;
       spelled = c.in-Some.ensures.read;
       fresh = account_fresh c.in-Some.account items (rw h.book at none);
-      holds = holds_account items c.in-Some.account c.args.self.now _ h c.in-Ok.ensures refl refl;
+      holds = holds_account items c.in-Some.account c.args.self.now _ h c.in-Ok.ensures.ok refl refl;
     }
