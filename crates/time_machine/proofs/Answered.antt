@@ -1,5 +1,5 @@
--- An arrival answers one open request at most, and its timestamps stand for one moment each.
-use Rattle.std.proofs.Common.{◌≡◌, ℕ, ◌&&◌, cond, Bool, true, false, Some, IfSome, List, [], ◌∷◌, ◌⊎◌, inl, inr, refl, sym, ◌∙◌, subst, arith, ℤ, if◌then◌else◌}
+-- An arrival answers one open request at most, and its timestamps stand for one moment each. Which arrivals are accepted.
+use Rattle.std.proofs.Common.{◌≡◌, ◌≢◌, ℕ, ◌&&◌, cond, Bool, true, false, Option, Some, None, IfSome, ap, List, [], ◌∷◌, ◌⊎◌, inl, inr, refl, sym, ◌∙◌, subst, arith, ℤ, if◌then◌else◌}
 use Rattle.std.specs.List.{AllByRecursion, Contains, IsDistinct}
 use Rattle.std.specs.Prelude.{is_some, find}
 use Rattle.std.proofs.lemmas.List.Elements.{Contains-append_cases, Contains-append_right}
@@ -10,15 +10,21 @@ use Rattle.ntp_wire.specs.Stamp.{ticks_of}
 use Rattle.ntp_wire.proofs.Moments.{ticks_of_is_near, one_moment}
 use Rattle.time_machine.specs.declared.outcome.Request.{Request}
 use Rattle.edge_traits.specs.declared.datagram.Addr.{Addr}
-use Rattle.ntp_wire.specs.Fields.{originate_of}
+use Rattle.ntp_wire.specs.Fields.{leap_of, mode_of, stratum_of, originate_of, receive_of, transmit_of}
+use Rattle.phase_rule.specs.declared.rule.Judged.{Judged}
+use Rattle.phase_rule.specs.declared.rule.Judged.TheVariants as judgement
+use Rattle.phase_rule.specs.Rule.{judged}
 use Rattle.capture_fmt.specs.declared.event.Event.{Event}
 use Rattle.capture_fmt.specs.declared.event.Event.TheVariants.{Life, Tick, Resync, Arrive}
-use Rattle.time_machine.specs.declared.outcome.Outcome.TheVariants.{Idle, Sent}
+use Rattle.time_machine.specs.declared.conf.Conf.{Conf}
+use Rattle.time_machine.specs.declared.outcome.Reason.{Reason}
+use Rattle.time_machine.specs.declared.outcome.Outcome.{Outcome}
+use Rattle.time_machine.specs.declared.outcome.Outcome.TheVariants.{Idle, Sent, Refused}
 use Rattle.time_machine.specs.Told.{request_sent, count_moved}
 use Rattle.time_machine.specs.Words.{words}
 use Rattle.time_machine.specs.Machine.{told, is_due, outcome_at}
-use Rattle.time_machine.specs.Verdict.{is_answered}
-use Rattle.time_machine.specs.Laws.{AnswersOpen, LawOfAccepted, LawOfAnswer, LawOfSends}
+use Rattle.time_machine.specs.Verdict.{is_answered, is_bad_length, is_bad_source, is_bad_mode, is_bad_stratum, is_bad_key_id, is_bad_digest, has_bad_times, offset_of, moved_by, verdict_on}
+use Rattle.time_machine.specs.Laws.{AnswersOpen, LawOfAccepted, LawOfAnswer, LawOfReply, LawOfRight, LawOfSends}
 use Rattle.time_machine.proofs.Room.{one_open, same_count}
 use Rattle.time_machine.proofs.Open.{open_at}
 use Rattle.time_machine.proofs.After.{verdict_cases}
@@ -96,6 +102,105 @@ answers_open conf history now from bytes =
     (λ r e offset how.
     let f = find_found (is_answered now (originate_of bytes)) w.open_requests r e in
     record { request = r; is_open = (open_at conf before r).1 f.element; answered = f.passes; counted = refl })
+
+-- ---- A reply to which no reason for a refusal applies
+
+-- an element that alone passes the test is what a find gives
+find_only : (test : Request → Bool) (xs : List Request) (r : Request) → Contains xs r → test r ≡ true → ((a : Request) → Contains xs a → test a ≡ true → a ≡ r) → find test xs ≡ Some r
+find_only test [] r c e only = absurd (omega (arith, c.1))
+find_only test (y ∷ ys) r c e only = by_test (λ k. find_only test ys r k e (λ a at. only a (Contains-append_right (y ∷ []) ys a at))) (test y) refl
+  where
+    by_test : (Contains ys r → find test ys ≡ Some r) → (b : Bool) → test y ≡ b → cond b (Some y) (find test ys) ≡ Some r
+    by_test later true t = ap Some (only y (0, omega arith, refl) t)
+    by_test later false t = elim (first_or y ys r c) [
+      | inl same ↦ let yes : test y ≡ true = subst (λ x. test x ≡ true) (sym same) e in absurd (let none : ⊥ = cc in none)
+      | inr rest ↦ later rest
+    ]
+
+if_false : (b : Bool) (x y : Outcome) (count : Option ℕ) → b ≡ false → count_moved y ≡ count → count_moved (if b then x else y) ≡ count
+if_false true x y count e h = cc
+if_false false x y count e h = h
+
+moved_of : (count : ℕ) (offset : ℤ) (j : Judged) → j ≢ judgement.TooBig → count_moved (moved_by count offset j) ≡ Some count
+moved_of count offset judgement.TooBig h = absurd (h refl)
+moved_of count offset judgement.Step h = refl
+moved_of count offset judgement.Slew h = refl
+
+pub reply_accepted : LawOfReply
+unfolding outcome_at
+reply_accepted conf history now from bytes r is_open right =
+    let before = told conf history in
+    let w = words conf before in
+    let stamp = originate_of bytes in
+    let alone : find (is_answered now stamp) w.open_requests ≡ Some r =
+    find_only (is_answered now stamp) w.open_requests r ((open_at conf before r).0 is_open) right.answers
+    (λ a k e. one_answered conf history now stamp a r ((open_at conf before a).1 k) is_open e right.answers) in
+    if_false _ _ _ _ right.whole
+    (if_false _ _ _ _ right.source
+    (if_false _ _ _ _ right.mode
+    (if_false _ _ _ _ right.stratum
+    (subst (λ o. count_moved (verdict_on conf now bytes o) ≡ Some r.count) (sym alone)
+    (if_false _ _ _ _ right.key_id
+    (if_false _ _ _ _ right.digest
+    (if_false _ _ _ _ right.times
+    (moved_of r.count _ _ right.small))))))))
+
+-- ---- An accepted arrival, to which no reason for a refusal applies
+
+passed : (b : Bool) (reason : Reason) (y : Outcome) (count : ℕ) → count_moved (if b then Refused reason else y) ≡ Some count → (b ≡ false) × (count_moved y ≡ Some count)
+passed true reason y count e = absurd (let no : ⊥ = cc in no)
+passed false reason y count e = (refl, e)
+
+moved_small : (n : ℕ) (offset : ℤ) (j : Judged) (count : ℕ) → count_moved (moved_by n offset j) ≡ Some count → (j ≢ judgement.TooBig) × (n ≡ count)
+moved_small n offset judgement.TooBig count e = absurd (let no : ⊥ = cc in no)
+moved_small n offset judgement.Step count e = (λ same. cc, cc)
+moved_small n offset judgement.Slew count e = (λ same. cc, cc)
+
+-- what an accepted arrival passed once its request was found
+record Passed (conf : Conf) (now : ℤ) (bytes : List ℕ) (o : Option Request) (count : ℕ) : Type 0 where
+  request : Request
+  found : o ≡ Some request
+  key_id : is_bad_key_id conf.kind conf.account.rid bytes ≡ false
+  digest : is_bad_digest conf.kind conf.account bytes ≡ false
+  times : has_bad_times request.at (ticks_of (receive_of bytes) now) (ticks_of (transmit_of bytes) now) now ≡ false
+  small : judged conf.limits (offset_of request.at (ticks_of (receive_of bytes) now) (ticks_of (transmit_of bytes) now) now) ≢ judgement.TooBig
+  counted : request.count ≡ count
+
+passed_on : (conf : Conf) (now : ℤ) (bytes : List ℕ) (o : Option Request) (count : ℕ) → count_moved (verdict_on conf now bytes o) ≡ Some count → Passed conf now bytes o count
+passed_on conf now bytes None count e = absurd (let no : ⊥ = cc in no)
+passed_on conf now bytes (Some r) count e =
+    let key_id = passed (is_bad_key_id conf.kind conf.account.rid bytes) _ _ count e in
+    let digest = passed (is_bad_digest conf.kind conf.account bytes) _ _ count key_id.1 in
+    let times = passed (has_bad_times r.at (ticks_of (receive_of bytes) now) (ticks_of (transmit_of bytes) now) now) _ _ count digest.1 in
+    let small = moved_small r.count _ _ count times.1 in
+    record { request = r; found = refl; key_id = key_id.0; digest = digest.0; times = times.0; small = small.0; counted = small.1 }
+
+pub accepted_right : LawOfRight
+unfolding outcome_at
+accepted_right conf history now from bytes count e =
+    let before = told conf history in
+    let w = words conf before in
+    let whole = passed (is_bad_length conf.kind bytes) _ _ count e in
+    let source = passed (is_bad_source conf w from) _ _ count whole.1 in
+    let mode = passed (is_bad_mode (mode_of bytes)) _ _ count source.1 in
+    let stratum = passed (is_bad_stratum (leap_of bytes) (stratum_of bytes)) _ _ count mode.1 in
+    let on = passed_on conf now bytes (find (is_answered now (originate_of bytes)) w.open_requests) count stratum.1 in
+    let found = find_found (is_answered now (originate_of bytes)) w.open_requests on.request on.found in (
+      on.request,
+      (open_at conf before on.request).1 found.element,
+      on.counted,
+      record {
+        whole = whole.0;
+        source = source.0;
+        mode = mode.0;
+        stratum = stratum.0;
+        answers = found.passes;
+        key_id = on.key_id;
+        digest = on.digest;
+        times = on.times;
+        small = on.small;
+      },
+    )
 
 -- ---- Which events send
 

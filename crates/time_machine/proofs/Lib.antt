@@ -8,3 +8,4 @@ pub mod Open
 pub mod Positions
 pub mod Room
 pub mod Sent
+pub mod Begins

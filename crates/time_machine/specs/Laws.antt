@@ -1,5 +1,5 @@
 -- What holds of histories. Where it says so, of those that grow.
-use Rattle.std.specs.Prelude.{◌≢◌, IfSome, ℕ, ◌<◌, ◌≤◌, ◌==◌, List, [], ◌∷◌, ◌++◌, length, Some, None, ◌≡◌, ◌↔◌, is_some, true, ℤ}
+use Rattle.std.specs.Prelude.{◌≢◌, IfSome, ℕ, ◌<◌, ◌≤◌, ◌==◌, List, [], ◌∷◌, ◌++◌, length, Some, None, ◌≡◌, ◌↔◌, is_some, true, false, ℤ}
 use Rattle.std.specs.List.{AllByRecursion, IsDistinct}
 use Rattle.edge_traits.specs.declared.datagram.Addr.{Addr}
 use Rattle.capture_fmt.specs.declared.event.Event.{Event}
@@ -7,13 +7,15 @@ use Rattle.capture_fmt.specs.declared.event.Event.TheVariants.{Arrive}
 use Rattle.base_specs.specs.Time.{IsTicksNear}
 use Rattle.ntp_wire.specs.declared.stamp.Stamp.{Stamp}
 use Rattle.ntp_wire.specs.Stamp.{ticks_of}
-use Rattle.ntp_wire.specs.Fields.{originate_of}
+use Rattle.ntp_wire.specs.Fields.{leap_of, mode_of, stratum_of, originate_of, receive_of, transmit_of}
+use Rattle.phase_rule.specs.declared.rule.Judged.TheVariants.{TooBig}
+use Rattle.phase_rule.specs.Rule.{judged}
 use Rattle.time_machine.specs.declared.conf.Conf.{Conf}
 use Rattle.time_machine.specs.declared.outcome.Request.{Request}
 use Rattle.time_machine.specs.Events.{History, is_life, mark_of}
 use Rattle.time_machine.specs.Told.{Told, request_of, request_sent, count_moved}
 use Rattle.time_machine.specs.Words.{all_sent, greatest_count, Words, words, IsOpen}
-use Rattle.time_machine.specs.Verdict.{is_answered}
+use Rattle.time_machine.specs.Verdict.{is_answered, is_bad_length, is_bad_source, is_bad_mode, is_bad_stratum, is_bad_key_id, is_bad_digest, has_bad_times, offset_of}
 use Rattle.time_machine.specs.Machine.{told, sends, outcome_by, outcome_at, outcomes, posted_by, moves_by, requests_of, moves_of, source_of}
 use Rattle.time_machine.specs.Report.{line_of, report_of}
 use Rattle.time_machine.specs.Growing.{Grows}
@@ -42,6 +44,31 @@ abbrev pub LawOfAccepted : Type 0
 LawOfAccepted = (conf : Conf) (history : History) (now : ℤ) (from : Addr) (bytes : List ℕ) →
     IfSome (count_moved (outcome_at conf history (Arrive now from bytes)))
     (λ count. AnswersOpen (told conf history) now bytes count)
+
+-- no reason to refuse an arrival applies, where it answers this request
+pub record IsRight (conf : Conf) (w : Words) (now : ℤ) (from : Addr) (bytes : List ℕ) (r : Request) : Type 0 where
+  pub whole : is_bad_length conf.kind bytes ≡ false
+  pub source : is_bad_source conf w from ≡ false
+  pub mode : is_bad_mode (mode_of bytes) ≡ false
+  pub stratum : is_bad_stratum (leap_of bytes) (stratum_of bytes) ≡ false
+  pub answers : is_answered now (originate_of bytes) r ≡ true
+  pub key_id : is_bad_key_id conf.kind conf.account.rid bytes ≡ false
+  pub digest : is_bad_digest conf.kind conf.account bytes ≡ false
+  pub times : has_bad_times r.at (ticks_of (receive_of bytes) now) (ticks_of (transmit_of bytes) now) now ≡ false
+  pub small : judged conf.limits (offset_of r.at (ticks_of (receive_of bytes) now) (ticks_of (transmit_of bytes) now) now) ≢ TooBig
+
+-- if: an arrival that answers an open request, and to which no reason for a refusal applies, is accepted for its count
+abbrev pub LawOfReply : Type 0
+LawOfReply = (conf : Conf) (history : History) (now : ℤ) (from : Addr) (bytes : List ℕ) (r : Request) →
+    IsOpen (told conf history) r → IsRight conf (words conf (told conf history)) now from bytes r →
+    count_moved (outcome_at conf history (Arrive now from bytes)) ≡ Some r.count
+
+-- only if: an arrival that is accepted for a count answers the open request of it, and no reason for a refusal applies
+abbrev pub LawOfRight : Type 0
+LawOfRight = (conf : Conf) (history : History) (now : ℤ) (from : Addr) (bytes : List ℕ) (count : ℕ) →
+    count_moved (outcome_at conf history (Arrive now from bytes)) ≡ Some count →
+    (r : Request) × IsOpen (told conf history) r × (r.count ≡ count)
+    × IsRight conf (words conf (told conf history)) now from bytes r
 
 -- an event leads to a request just where it sends
 abbrev pub LawOfSends : Type 0

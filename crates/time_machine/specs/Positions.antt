@@ -1,13 +1,17 @@
 -- What the words say of positions: a line of entries is the newer ones, the one at a position, and the older ones.
-use Rattle.std.specs.Prelude.{◌≡◌, ◌↔◌, ◌≤◌, ◌||◌, ℕ, true, false, List, [], ◌∷◌, ◌++◌, length, Some, None, IsSome}
+use Rattle.std.specs.Prelude.{◌≡◌, ◌↔◌, ◌<◌, ◌≤◌, ◌||◌, ℕ, true, false, List, [], ◌∷◌, ◌++◌, length, Some, None, IsSome, ℤ, ◌+ℤ◌}
+use Rattle.edge_traits.specs.declared.datagram.Addr.{Addr}
 use Rattle.std.specs.List.{AllByRecursion, Contains}
 use Rattle.capture_fmt.specs.declared.event.Event.{Event}
+use Rattle.capture_fmt.specs.declared.event.Event.TheVariants.{Life, Tick, Arrive}
 use Rattle.time_machine.specs.declared.conf.Conf.{Conf}
+use Rattle.time_machine.specs.declared.outcome.How.TheVariants.{Slew, Step}
+use Rattle.time_machine.specs.declared.outcome.Outcome.TheVariants.{Moved}
 use Rattle.time_machine.specs.declared.outcome.Request.{Request}
 use Rattle.time_machine.specs.Entries.{count_of}
 use Rattle.time_machine.specs.Told.{Told, is_turning_point, is_accepted, has_sent, base_left, offset_moved}
-use Rattle.time_machine.specs.Words.{words, since, life_at, poll_set, all_sent, IsOpen}
-use Rattle.time_machine.specs.Machine.{told, requests_of}
+use Rattle.time_machine.specs.Words.{words, since, life_at, poll_set, all_sent, greatest_count, IsOpen}
+use Rattle.time_machine.specs.Machine.{told, sends, outcome_at, requests_of, moves_of}
 use Rattle.time_machine.specs.Growing.{Grows}
 use Rattle.time_machine.specs.Events.{History, is_life, is_reset, reading_of, mark_of}
 
@@ -43,6 +47,19 @@ LawOfBase = (conf : Conf) (newer older : List Told) (t : Told) →
     AllByRecursion (λ s. base_left (reading_of s.event) s.outcome ≡ None) newer →
     IsSome (base_left (reading_of t.event) t.outcome) →
     (words conf (newer ++ t ∷ older)).base ≡ base_left (reading_of t.event) t.outcome
+
+-- an event that sends leaves its reading as the base, and an accepted arrival the reading of the clock that is corrected
+abbrev pub LawOfLeaving : Type 0
+LawOfLeaving = (conf : Conf) (history : History) (e : Event) →
+    (sends (words conf (told conf history)) e ≡ true → (words conf (told conf (e ∷ history))).base ≡ Some (reading_of e))
+    × ((count : ℕ) (offset : ℤ) → outcome_at conf history e ≡ Moved count offset Slew →
+    (words conf (told conf (e ∷ history))).base ≡ Some (reading_of e))
+    × ((count : ℕ) (offset : ℤ) → outcome_at conf history e ≡ Moved count offset Step →
+    (words conf (told conf (e ∷ history))).base ≡ Some (reading_of e +ℤ offset))
+
+-- the clock is corrected once for each accepted arrival
+abbrev pub LawOfMoved : Type 0
+LawOfMoved = (conf : Conf) (history : History) → length (moves_of conf history) ≡ count_of is_accepted (told conf history)
 
 -- the source is the partner at the last accepted arrival of this life
 abbrev pub LawOfSource : Type 0
@@ -88,6 +105,15 @@ LawOfGreatest = (conf : Conf) (before : List Told) (mark : ℕ) →
 -- the first event of a history that grows is a Life
 abbrev pub LawOfFirst : Type 0
 LawOfFirst = (conf : Conf) (newer : History) (e : Event) → Grows conf (newer ++ e ∷ []) → is_life e ≡ true
+
+-- A life may follow a history that grows, where its mark is at least every count sent before. Then an arrival may
+-- follow, and where a count is left a Tick.
+abbrev pub LawOfBegin : Type 0
+LawOfBegin = (conf : Conf) (history : History) (now : ℤ) (mark : ℕ) →
+    Grows conf history → greatest_count (told conf history) ≤ mark →
+    Grows conf (Life now mark ∷ history)
+    × (mark < 4294967295 → (later : ℤ) (word : ℕ) → Grows conf (Tick later word ∷ Life now mark ∷ history))
+    × ((later : ℤ) (from : Addr) (bytes : List ℕ) → Grows conf (Arrive later from bytes ∷ Life now mark ∷ history))
 
 -- what came of earlier events doesn't hang on later ones
 abbrev pub LawOfPrefix : Type 0

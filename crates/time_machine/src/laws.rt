@@ -1,11 +1,14 @@
 //! Laws of the time machine.
-ghost use Rattle.time_machine.specs.Laws.{LawOfAccepted, LawOfAnswer, LawOfCounts, LawOfJoins, LawOfLives, LawOfMore, LawOfMoves, LawOfNone, LawOfOne, LawOfRoom, LawOfSends, LawOfTimes};
-ghost use Rattle.time_machine.specs.Positions.{LawOfBase, LawOfChanges, LawOfEight, LawOfFirst, LawOfGreatest, LawOfLifeWords, LawOfNothing, LawOfOpen, LawOfPoll, LawOfPrefix, LawOfSent, LawOfSince, LawOfSource, LawOfThisLife};
+ghost use Rattle.time_machine.specs.Laws.{LawOfAccepted, LawOfAnswer, LawOfCounts, LawOfJoins, LawOfLives, LawOfMore, LawOfMoves, LawOfNone, LawOfOne, LawOfReply, LawOfRight, LawOfRoom, LawOfSends, LawOfTimes};
+ghost use Rattle.time_machine.specs.Positions.{LawOfBase, LawOfBegin, LawOfChanges, LawOfEight, LawOfFirst, LawOfGreatest, LawOfLeaving, LawOfLifeWords, LawOfMoved, LawOfNothing, LawOfOpen, LawOfPoll, LawOfPrefix, LawOfSent, LawOfSince, LawOfSource, LawOfThisLife};
 
 /// What holds of histories, whatever is in them: of those that grow, of every one where that isn't asked.
 pub fn laws_of_histories()
     // Each count that is sent is above all those that were sent before it.
     ensures counts { LawOfCounts }
+    // An arrival is accepted if and only if it answers an open request and no reason for a refusal applies.
+    ensures reply { LawOfReply }
+    ensures right { LawOfRight }
     // An accepted arrival answers an open request. No two answer the same one, and none one of an earlier life.
     ensures accepted { LawOfAccepted }
     ensures moves { LawOfMoves }
@@ -30,7 +33,9 @@ pub fn laws_of_positions()
     ensures life { LawOfThisLife }
     ensures life_words { LawOfLifeWords }
     ensures sent { LawOfSent }
+    ensures moved { LawOfMoved }
     ensures base { LawOfBase }
+    ensures leaving { LawOfLeaving }
     ensures nothing { LawOfNothing }
     ensures source { LawOfSource }
     ensures changes { LawOfChanges }
@@ -39,5 +44,6 @@ pub fn laws_of_positions()
     ensures eight { LawOfEight }
     ensures greatest { LawOfGreatest }
     ensures first { LawOfFirst }
+    ensures begin { LawOfBegin }
     ensures prefix { LawOfPrefix }
 {}

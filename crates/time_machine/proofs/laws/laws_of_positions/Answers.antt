@@ -1,3 +1,4 @@
+use Rattle.time_machine.proofs.Begins.{begin_at, leaving_at, moved_at}
 use Rattle.time_machine.proofs.Positions.{since_at, this_life_at, life_words_at, base_at, source_at, nothing_at, changes_at, poll_law, eight_at, greatest_at, first_at, prefix_at}
 use Rattle.time_machine.proofs.Sent.{sent_at}
 use Rattle.time_machine.proofs.Open.{open_at}
@@ -10,7 +11,9 @@ returns c =
       life = this_life_at;
       life_words = life_words_at;
       sent = sent_at;
+      moved = moved_at;
       base = base_at;
+      leaving = leaving_at;
       nothing = nothing_at;
       source = source_at;
       changes = changes_at;
@@ -19,5 +22,6 @@ returns c =
       eight = eight_at;
       greatest = greatest_at;
       first = first_at;
+      begin = begin_at;
       prefix = prefix_at;
     }
