@@ -65,6 +65,19 @@ fn tears_what_is_not_synced(rt: HostRuntime) -> Result<(), Fail> {
     Ok(())
 }
 
+// The last byte is torn as the first.
+#[test]
+fn tears_each_byte_of_a_write(rt: HostRuntime) -> Result<(), Fail> {
+    let mut disk = zero_disk(rt.alloc(), &[2])?;
+    assert_eq!(rt; disk.write_at(0, &[1; 256]), Put::Done);
+    assert_eq!(rt; disk.write_at(0, &[9; 256]), Put::Failed);
+    assert_eq!(rt; disk.content(), &[1; 256]);
+    for at in [0, 1, 127, 128, 254, 255] {
+        assert_eq!(rt; seen_at(&disk, at), [true; 3], "at {at}");
+    }
+    Ok(())
+}
+
 #[test]
 fn stops_when_the_fuse_has_blown(rt: HostRuntime) -> Result<(), Fail> {
     let disk = zero_disk(rt.alloc(), &[1])?;
