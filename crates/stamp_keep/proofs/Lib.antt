@@ -6,3 +6,4 @@ pub mod Staging
 pub mod Reserving
 pub mod Surveys
 pub mod Loading
+pub mod Contents

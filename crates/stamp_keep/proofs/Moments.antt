@@ -36,6 +36,11 @@ weaker run from = record {
   before = λ t c le left. ⊎_elim (λ had. inl had) (λ p. inr (from c p)) (run.before t c le left);
 }
 
+-- what a clause of a success gives
+pub on_ok : {T E P R : Type 0} (r : Result T E) → OnOk r P → (P → R) → OnOk r R
+on_ok (Ok x) p gives = gives p
+on_ok (Err e) p gives = tt
+
 -- what two clauses of one success give together
 pub on_ok_both : {T E P Q R : Type 0} (r : Result T E) → OnOk r P → OnOk r Q → (P → Q → R) → OnOk r R
 on_ok_both (Ok x) p q both = both p q

@@ -1,9 +1,7 @@
 -- What a reserve leaves, once its two halves are done.
-use Rattle.std.proofs.Common.{◌≡◌, inl, inr, ⊎_elim, ℕ, ◌≤◌, ◌<◌, List, sym, ◌∙◌, refl, arith}
+use Rattle.std.proofs.Common.{inl, inr, ⊎_elim, ℕ, ◌≤◌, List, ◌∙◌, arith}
 use Rattle.slot_disk.specs.Told.{Told, IsDisk}
 use Rattle.slot_disk.specs.Calls.{LeavesOnly}
-use Rattle.stamp_keep.specs.Image.{mark_of_image}
-use Rattle.stamp_keep.specs.Slots.{SameUnused}
 use Rattle.stamp_keep.specs.Keep.{Fits, IsLoadable, KeepsMarks, KeepsUnused, StandsForEither}
 use Rattle.stamp_keep.specs.Steps.{IsMadeOr, IsStaging, KeepsSettled}
 use Rattle.stamp_keep.specs.declared.keeper.Keeper.{Keeper}

@@ -5,7 +5,7 @@ use Rattle.std.proofs.lemmas.Bool.Decides.{nat_tests}
 use Rattle.byteorder.specs.Endian.{big_bytes}
 use Rattle.slot_disk.specs.Calls.{SameOutside}
 use Rattle.stamp_keep.specs.Image.{IsOpen, IsClosed, mark_at, open_mark, mark_of_image}
-use Rattle.stamp_keep.specs.Slots.{place, Apart, EachSlot, HasOtherVersion, IsNewest, IsOurs, IsUnused, NoneOpen, Remembers, SameUnused, Settles}
+use Rattle.stamp_keep.specs.Slots.{place, Apart, EachSlot, IsNewest, IsOurs, IsUnused, NoneOpen, Remembers, SameUnused, Settles}
 use Rattle.stamp_keep.specs.Steps.{SameBut, Turns, body, closing, next}
 use Rattle.stamp_keep.specs.Keep.{IsLoadable, StandsForEither}
 use Rattle.stamp_keep.specs.declared.slot.Slot.{Slot}
@@ -213,15 +213,15 @@ behind_unused s old new same = record { same = λ at free. ⊎_elim (λ lt. same
 pub gate_unused : (s : Slot) (old new : List ℕ) → SameOutside (place s) 1 old new → SameUnused old new
 gate_unused s old new same = record { same = λ at free. ⊎_elim (λ lt. same.before at lt) (λ le. same.after at (omega arith)) (at_slot (λ s. (at < place s) ⊎ (place s + 8 ≤ at)) free s) }
 
-closes_third : (k : Keeper) → k.third_open ≡ true → closing k ≡ Some (place k.third)
+pub closes_third : (k : Keeper) → k.third_open ≡ true → closing k ≡ Some (place k.third)
 unfolding closing
 closes_third k is = rw is refl
 
-closes_none : (k : Keeper) → k.third_open ≡ false → closing k ≡ None
+pub closes_none : (k : Keeper) → k.third_open ≡ false → closing k ≡ None
 unfolding closing
 closes_none k is = rw is refl
 
-closes_no_other : (k : Keeper) (j : ℕ) → j ≢ place k.third → closing k ≢ Some j
+pub closes_no_other : (k : Keeper) (j : ℕ) → j ≢ place k.third → closing k ≢ Some j
 closes_no_other k j ne = by_gate k.third_open refl
   where
     by_gate : (b : Bool) → k.third_open ≡ b → closing k ≢ Some j

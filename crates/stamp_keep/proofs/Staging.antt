@@ -1,5 +1,5 @@
 -- What the two halves of a reserve leave on the disk.
-use Rattle.std.proofs.Common.{◌≡◌, inl, inr, ⊎_elim, ℕ, ◌+◌, ◌^◌, ◌<◌, ◌≤◌, List, length, Option, Some, None, IfSome, sym, ◌∙◌, subst, refl, arith}
+use Rattle.std.proofs.Common.{◌≡◌, inl, inr, ⊎_elim, ℕ, ◌+◌, ◌^◌, ◌<◌, List, length, Option, Some, None, IfSome, sym, ◌∙◌, subst, refl, arith}
 use Rattle.slot_disk.specs.Told.{Told, IsDisk}
 use Rattle.slot_disk.specs.Calls.{Holds, Written, IsSynced, LeavesOnly}
 use Rattle.stamp_keep.specs.Image.{mark_of_image}

@@ -3,3 +3,4 @@ pub mod Slots
 pub mod Survey
 pub mod Keep
 pub mod Steps
+pub mod Written

@@ -1,12 +1,15 @@
 //! The keeper of the mark.
 ghost use Rattle.std.specs.Prelude.{◌≡◌, ◌+◌, ◌<◌, ◌≤◌, IfOk, IfSome, IsErrOf, OnErr, OnOk, true, false};
-ghost use Rattle.slot_disk.specs.Calls.{LeavesOnly};
+ghost use Rattle.slot_disk.specs.Calls.{LeavesOnly, Written};
 ghost use Rattle.stamp_keep.specs.Image.{mark_of_image};
 ghost use Rattle.stamp_keep.specs.Keep.{Fits, IsLeft, IsLoadable, KeepCounts, KeepsMarks, KeepsUnused};
 ghost use Rattle.stamp_keep.specs.Keep.{LeavesFromFirst, RefusedAsBefore, StandsAsBefore, StandsAsRead};
 ghost use Rattle.stamp_keep.specs.Keep.{StandsForEither, mark_of};
-ghost use Rattle.stamp_keep.specs.Slots.{HasOtherVersion, IsOurs, IsTarget, Remembers};
-ghost use Rattle.stamp_keep.specs.Steps.{AllStaged, IsMadeFrom, IsMadeOr, IsOnlyImage, KeepsSettled, closing, next};
+ghost use Rattle.stamp_keep.specs.Slots.{HasOtherVersion, IsOurs, IsTarget, Remembers, place};
+ghost use Rattle.stamp_keep.specs.Steps.{AllStaged, IsMadeFrom, IsMadeOr, IsOnlyImage, KeepsSettled, TurnedContent};
+ghost use Rattle.stamp_keep.specs.Steps.{body, closing, next};
+ghost use Rattle.stamp_keep.specs.Written.{LoadedContent, LoadedIn, MadeCalls, ReservedContent, ShutContent, ShutIn};
+ghost use Rattle.stamp_keep.specs.Written.{gate_calls, reserve_calls};
 
 use crate::slot::{CLOSED, OPEN, Slot, VERSION, body_of};
 use crate::steps::{read_synced, turn_gates, write_and_sync};
@@ -70,6 +73,11 @@ impl Keeper {
         // Then every image stands for the keeper's mark, and can be loaded.
         ensures fits { IfOk result (Fits (D.told disk.new)) }
 
+        // It writes nothing but the closed gate of the slot that is written next, where that one is open.
+        ensures written { IfOk result (λ k.
+            LoadedContent k (D.told disk.old).content (D.told disk.new).content) }
+        ensures made { IfOk result (λ k. LoadedIn k (D.told disk.old) (D.told disk.new)) }
+
         // The first call is a sync: from its end on each image stands for what the content stands for.
         ensures begins { LeavesFromFirst (D.told disk.old) (D.told disk.new) (StandsAsRead (D.told disk.old)) }
 
@@ -111,6 +119,14 @@ impl Keeper {
 
         // Then the content and every image stand for the new mark, and can be loaded.
         ensures fits { OnOk result (Fits (D.told disk.new) self.new) }
+
+        // The slot that was to be written holds the mark, the third one is closed, and every other byte is as before.
+        // Then the third slot is written next.
+        ensures written { IfOk result (λ mark.
+            ReservedContent self.old mark (D.told disk.old).content (D.told disk.new).content) }
+        ensures turns { IfOk result (λ mark. self.new ≡ next self.old mark) }
+        ensures made { OnOk result (MadeCalls (reserve_calls self.old)
+            (D.told disk.old) (D.told disk.new)) }
 
         // A crash at any moment of the call leaves an image that stands for the old mark or the new one, can be
         // loaded, and has its unused bytes from an image at entry.
@@ -162,6 +178,9 @@ impl Keeper {
         requires only { IsOnlyImage image.now (D.told disk.old) }
         ensures moments { LeavesOnly (D.told disk.old) (D.told disk.new) (IsMadeFrom (D.told disk.old)) }
         ensures fits { OnOk result (Fits (D.told disk.new) self.now) }
+        ensures written { OnOk result (ShutContent self.now.target
+            (D.told disk.old).content (D.told disk.new).content) }
+        ensures made { OnOk result (ShutIn self.now.target image.now (D.told disk.old) (D.told disk.new)) }
         ensures calls { (D.told disk.new).time ≤ (D.told disk.old).time + 2 }
         ensures only_fault { OnErr result (result ≡ Err KeepFault.DiskFault) }
         ensures cause { KeepCounts result (D.faults disk.old) (D.faults disk.new) }
@@ -178,6 +197,11 @@ impl Keeper {
         requires fits { Fits (D.told disk.old) self.old }
         requires grows { mark_of self.old < mark }
         ensures mark { OnOk result (mark_of self.new ≡ mark) }
+        ensures written { OnOk result (ReservedContent self.old mark
+            (D.told disk.old).content (D.told disk.new).content) }
+        ensures turns { OnOk result (self.new ≡ next self.old mark) }
+        ensures made { OnOk result (MadeCalls (reserve_calls self.old)
+            (D.told disk.old) (D.told disk.new)) }
         ensures fits { OnOk result (Fits (D.told disk.new) self.new) }
         ensures any_moment { LeavesOnly (D.told disk.old) (D.told disk.new) (StandsForEither (mark_of self.old) mark) }
         ensures loadable { LeavesOnly (D.told disk.old) (D.told disk.new) IsLoadable }
@@ -200,6 +224,9 @@ impl Keeper {
         requires { Fits (D.told disk.old) self.now }
         ensures moments { KeepsSettled self.now (D.told disk.old) (D.told disk.new) }
         ensures staged { OnOk result (AllStaged (D.told disk.new) self.now mark) }
+        ensures written { OnOk result (Written (place self.now.target + 1) (body mark)
+            (D.told disk.old).content (D.told disk.new).content) }
+        ensures made { OnOk result (MadeCalls 2 (D.told disk.old) (D.told disk.new)) }
         ensures calls { (D.told disk.new).time ≤ (D.told disk.old).time + 2 }
         ensures only_fault { OnErr result (result ≡ Err KeepFault.DiskFault) }
         ensures cause { KeepCounts result (D.faults disk.old) (D.faults disk.new) }
@@ -213,6 +240,10 @@ impl Keeper {
         requires grows { mark_of self.now < mark }
         ensures moments { LeavesOnly (D.told disk.old) (D.told disk.new) (IsMadeOr mark (D.told disk.old)) }
         ensures fits { OnOk result (Fits (D.told disk.new) (next self.now mark)) }
+        ensures turned { OnOk result (TurnedContent (place self.now.target) (closing self.now)
+            (D.told disk.old).content (D.told disk.new).content) }
+        ensures made { OnOk result (MadeCalls (gate_calls (closing self.now))
+            (D.told disk.old) (D.told disk.new)) }
         ensures calls { (D.told disk.new).time ≤ (D.told disk.old).time + 3 }
         ensures only_fault { OnErr result (result ≡ Err KeepFault.DiskFault) }
         ensures cause { KeepCounts result (D.faults disk.old) (D.faults disk.new) }

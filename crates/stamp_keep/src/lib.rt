@@ -11,6 +11,7 @@
 //! least mark of every image (`KeepsMarks`) and on the causes of each answer (`KeepCounts`, and `HasOtherVersion`
 //! of `specs/Slots.antt`, as one word), in `specs/Keep.antt` and `specs/Image.antt`. It has no word of slots: these
 //! are `specs/Slots.antt`, and the steps of a load and a reserve are `specs/Survey.antt` and `specs/Steps.antt`.
+//! `specs/Written.antt` says which bytes a load and a reserve write, and how many calls they make.
 #![tactic(auto)]
 
 mod keeper;

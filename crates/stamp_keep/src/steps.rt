@@ -3,6 +3,7 @@ ghost use Rattle.std.specs.Prelude.{◌≡◌, ◌+◌, ◌<◌, ◌≤◌, leng
 ghost use Rattle.slot_disk.specs.Calls.{IsSynced, LeavesOnly, Written};
 ghost use Rattle.stamp_keep.specs.Keep.{KeepCounts, LeavesFromFirst};
 ghost use Rattle.stamp_keep.specs.Steps.{HasRead, HasTurned, IsContent, LeavesTorn, TurnedContent};
+ghost use Rattle.stamp_keep.specs.Written.{MadeCalls, gate_calls};
 
 use crate::keeper::KeepFault;
 use crate::slot::{CLOSED, OPEN};
@@ -14,6 +15,7 @@ pub fn write_and_sync<D: Disk>(disk: &mut D, at: usize, piece: &[u8]) -> Result<
     ensures moments { LeavesTorn at piece.now (D.told disk.old) (D.told disk.new) }
     ensures written { OnOk result (Written at piece.now (D.told disk.old).content (D.told disk.new).content) }
     ensures durable { OnOk result (IsSynced (D.told disk.new)) }
+    ensures made { OnOk result (MadeCalls 2 (D.told disk.old) (D.told disk.new)) }
     ensures calls { (D.told disk.new).time ≤ (D.told disk.old).time + 2 }
     ensures only_fault { OnErr result (result ≡ Err KeepFault.DiskFault) }
     ensures cause { KeepCounts result (D.faults disk.old) (D.faults disk.new) }
@@ -30,6 +32,7 @@ pub fn turn_gates<D: Disk>(disk: &mut D, gate: usize, other: Option<usize>) -> R
     ensures moments { LeavesOnly (D.told disk.old) (D.told disk.new) (HasTurned (D.told disk.old) gate other) }
     ensures turned { OnOk result (TurnedContent gate other (D.told disk.old).content (D.told disk.new).content) }
     ensures durable { OnOk result (IsSynced (D.told disk.new)) }
+    ensures made { OnOk result (MadeCalls (gate_calls other) (D.told disk.old) (D.told disk.new)) }
     ensures calls { (D.told disk.new).time ≤ (D.told disk.old).time + 3 }
     ensures only_fault { OnErr result (result ≡ Err KeepFault.DiskFault) }
     ensures cause { KeepCounts result (D.faults disk.old) (D.faults disk.new) }

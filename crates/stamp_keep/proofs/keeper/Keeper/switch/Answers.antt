@@ -11,3 +11,9 @@ pub returns-clause-fits : goal.returns-clause-fits
 returns-clause-fits g c =
     let turned = rw (c.at.ensures, c.to_close.ensures.to_close) at c.turn_gates.ensures.turned in
     on_ok_both c.turn_gates.result turned c.turn_gates.ensures.durable (turn_fits c.args.self.now c.args.mark _ _ (g.D.Disk.is_disk c.args.disk.now) (g.D.Disk.is_disk c.turn_gates.new.disk) c.requires.staged c.requires.grows)
+
+pub returns-clause-turned : goal.returns-clause-turned
+returns-clause-turned g c = rw (c.at.ensures, c.to_close.ensures.to_close) at c.turn_gates.ensures.turned
+
+pub returns-clause-made : goal.returns-clause-made
+returns-clause-made g c = rw (c.to_close.ensures.to_close) at c.turn_gates.ensures.made

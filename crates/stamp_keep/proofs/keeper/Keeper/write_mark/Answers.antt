@@ -1,4 +1,5 @@
 use Rattle.std.proofs.Common.{arith}
+use Rattle.stamp_keep.proofs.Contents.{fits_apart, reserve_made, reserved_content}
 use Rattle.stamp_keep.proofs.Reserving.{reserve_least, reserve_loads, reserve_marks, reserve_unused, stage_least, stage_loads, stage_marks, stage_unused}
 use Rattle.stamp_keep.proofs.keeper.Keeper.write_mark.Goals as goal
 
@@ -45,3 +46,12 @@ returns-clause-unused g c =
 pub returns-clause-least : goal.returns-clause-least
 returns-clause-least g c =
     reserve_least c.args.self.now _ c.args.mark _ _ (g.D.Disk.is_disk c.stage.new.disk) c.stage.ensures.moments c.switch.ensures.moments (g.D.Disk.is_disk c.switch.new.disk) c.requires.fits (omega (arith, c.requires.grows))
+
+pub returns-clause-written : goal.returns-clause-written
+returns-clause-written g c =
+    let apart = fits_apart c.args.self.now _ (g.D.Disk.is_disk c.args.disk.now) c.requires.fits in
+    reserved_content c.args.self.now c.args.mark _ _ _ apart c.in_ok-stage.ensures.written c.in_ok-switch.ensures.turned
+
+pub returns-clause-made : goal.returns-clause-made
+returns-clause-made g c =
+    reserve_made c.args.self.now (g.D.Disk.told c.args.disk.now) (g.D.Disk.told c.stage.new.disk) (g.D.Disk.told c.switch.new.disk) c.in_ok-stage.ensures.made c.in_ok-switch.ensures.made
