@@ -4,6 +4,7 @@ pub mod CorrectedClock
 pub mod Correction
 pub mod EntropyScript
 pub mod Held
+pub mod LateFile
 pub mod LinkScript
 pub mod Pieces
 pub mod SessionScript

@@ -9,13 +9,15 @@
 //! and leaves nothing open. A call that fails uses nothing up. The memory of the lists is taken when the object is
 //! made.
 //!
-//! An adapter (`ReaderSource`, `WriterSink`, `RealClock`, `UdpLink`, `RandomFile`) tells nothing, and says what it
-//! makes of what the reader, the writer or the machine's clock gave. What these give is trusted, and what a socket
-//! gives and takes. `file_source` and `random_file` open files. What can't be opened is a `ClosedSource`, a link
-//! without a socket or words without a file: each call fails. `NullSink` takes all and keeps nothing.
+//! An adapter (`ReaderSource`, `WriterSink`, `FileSink`, `RealClock`, `UdpLink`, `RandomFile`) tells nothing, and says
+//! what it makes of what the reader, the writer or the machine's clock gave. What these give is trusted, and what a
+//! socket gives and takes. `file_source` and `random_file` open files. A `FileSink` opens its file with the first piece,
+//! so a file to which nothing is written stays as it was. What can't be opened is a `ClosedSource`, a `FileSink` without
+//! a file, a link without a socket or words without a file: each call fails. `NullSink` takes all and keeps nothing.
 //!
 //! The definitions stand in `specs/`: a file of its own for each object, `Calls`, `Pieces` and `SessionScript` for
-//! their parts, `Held`, `CorrectedClock` and `Correction` for the adapters. Those of the traits are handed on.
+//! their parts, `Held`, `LateFile`, `CorrectedClock` and `Correction` for the adapters. Those of the traits are handed
+//! on.
 #![tactic(auto)]
 
 mod calls;
@@ -23,6 +25,7 @@ mod clock;
 mod closed;
 mod correction;
 mod entropy;
+mod file_sink;
 mod link;
 mod pieces;
 mod random;
@@ -44,6 +47,7 @@ pub use edge_traits::{
     Receipt, Sink, Source, Take, Tried, Wire, fill_front,
 };
 pub use entropy::ScriptEntropy;
+pub use file_sink::FileSink;
 pub use link::ScriptLink;
 pub use random::{RandomFile, file_source, random_file};
 pub use reader::ReaderSource;

@@ -1,42 +1,47 @@
-//! Random words of the machine.
-ghost use Rattle.std.specs.Prelude.{◌≡◌, IfOk, None};
+//! Random words of the machine, and the bytes of a file by its path.
+ghost use Rattle.std.specs.Prelude.{◌≡◌, None, Some};
+ghost use Rattle.std.specs.Option.{is_some};
+ghost use Rattle.edge_io.specs.Held.{TakesWord};
 ghost use Rattle.edge_traits.specs.Entropy.{DrawnCounts, Draws};
 
 use crate::ReaderSource;
-use edge_traits::{Drawn, Entropy, Filled, fill_front};
+use edge_traits::{Drawn, Entropy};
 use std::fs;
 use std::io::{self, Read};
 use std::rt::Files;
 
-/// The words of a file of random bytes, or of any other reader. It tells nothing.
+/// The words of a file of random bytes, or of any other reader. It tells nothing; of a reader whose bytes are known it
+/// gives exactly these.
 ///
 /// A word is the next four bytes, lowest first. A draw fails where the reader fails, and where it ends before the four
 /// bytes. A read that a signal cuts short is made again, and is no fault.
 #[derive(Drop)]
 pub struct RandomFile<F: Read> {
-    source: Option<ReaderSource<F>>,
+    reader: Option<F>,
     faults: u64,
 }
 
 impl<F: Read> RandomFile<F> {
     /// The words of what the reader gives.
     pub fn new(reader: F) -> RandomFile<F>
+        ensures held { result.reader ≡ Some reader }
         ensures told { ⟦<RandomFile<F> as Entropy>⟧.words result ≡ None }
         ensures faults { ⟦<RandomFile<F> as Entropy>⟧.faults result ≡ 0 }
     {
         RandomFile {
-            source: Some(ReaderSource::new(reader)),
+            reader: Some(reader),
             faults: 0,
         }
     }
 
     /// Words of no file: each draw fails.
     pub fn without_file() -> RandomFile<F>
+        ensures held { result.reader ≡ None }
         ensures told { ⟦<RandomFile<F> as Entropy>⟧.words result ≡ None }
         ensures faults { ⟦<RandomFile<F> as Entropy>⟧.faults result ≡ 0 }
     {
         RandomFile {
-            source: None,
+            reader: None,
             faults: 0,
         }
     }
@@ -52,10 +57,13 @@ impl<F: Read> Entropy for RandomFile<F> {
     fn word(&mut self) -> Drawn
         ensures gives { Draws result None None }
         ensures cause { DrawnCounts result self.old.faults self.new.faults }
+        // Without a file there is no word, and none is opened later.
+        ensures content { TakesWord result F.remaining self.old.reader self.new.reader }
+        ensures same { is_some self.new.reader ≡ is_some self.old.reader }
     {
         let mut bytes = [0; 4];
-        if let Some(source) = &mut self.source
-            && fill_front(source, &mut bytes) == Filled::Bytes(4)
+        if let Some(reader) = &mut self.reader
+            && reader.read_exact(&mut bytes).is_ok()
         {
             return Drawn::Word(u32::from_le_bytes(bytes));
         }
@@ -87,8 +95,11 @@ mod tests {
         assert_eq!(rt; entropy.word(), Drawn::Word(0x8000_00FF));
         assert_eq!(rt; entropy.word(), Drawn::Failed);
         assert_eq!(rt; entropy.faults, 1);
+        // Three random words are the same once in 2^64 runs.
         let mut machine = random_file(&rt)?;
-        assert!(rt; matches!(machine.word(), Drawn::Word(_)));
+        let drawn = [machine.word(), machine.word(), machine.word()];
+        assert!(rt; drawn.iter().all(|word| matches!(word, Drawn::Word(_))));
+        assert!(rt; drawn[0] != drawn[1] || drawn[1] != drawn[2]);
         let mut none = RandomFile::<&[u8]>::without_file();
         assert_eq!(rt; none.word(), Drawn::Failed);
         assert_eq!(rt; none.faults, 1);

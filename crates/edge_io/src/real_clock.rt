@@ -127,11 +127,11 @@ fn machine_ticks<R: rt::Clock>(rt: &R) -> Option<u128>
 {
     let now = SystemTime::now(rt).ok()?;
     let since_1970 = now.duration_since(SystemTime::UNIX_EPOCH).ok()?;
-    Some(ticks_of(since_1970))
+    Some(ticks_since_1601(since_1970))
 }
 
 /// The moment so long after 1 January 1970, in ticks of 100 ns since 1 January 1601.
-fn ticks_of(since_1970: Duration) -> u128
+fn ticks_since_1601(since_1970: Duration) -> u128
     ensures value { result ≡ 116_444_736_000_000_000 + as_nanos since_1970 / 100 }
     ensures within { result < 2 ^ 100 }
 {
@@ -184,6 +184,11 @@ mod tests {
             clock.rt.since_1970 = Some(Duration::from_micros(micros));
             assert_eq!(rt; clock.now(), Reading::At(EPOCH + reading), "at {micros}");
         }
+        // So does a slew to the other side, of which one tick is worked off here.
+        clock.rt.since_1970 = Some(Duration::from_micros(2_400));
+        clock.slew(-2);
+        clock.rt.since_1970 = Some(Duration::from_micros(2_600));
+        assert_eq!(rt; clock.now(), Reading::At(EPOCH + 25_995));
         clock.rt.since_1970 = None;
         assert_eq!(rt; clock.now(), Reading::Failed);
         assert_eq!(rt; clock.faults, 1);

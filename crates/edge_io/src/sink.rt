@@ -1,4 +1,4 @@
-//! Bytes that are written to memory.
+//! Bytes that are written to memory, and bytes that nobody keeps.
 ghost use Rattle.std.specs.Prelude.{◌≡◌, ◌<◌, [], IfOk, None, Some, length};
 ghost use Rattle.edge_io.specs.SinkScript.{sink_after, write_answer};
 ghost use Rattle.edge_traits.specs.Sink.{PutCounts, Writes};

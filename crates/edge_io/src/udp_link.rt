@@ -1,5 +1,5 @@
 //! Datagrams of a socket.
-ghost use Rattle.std.specs.Prelude.{◌≡◌, ◌≢◌, ◌≤◌, [], ◌∷◌, IfErr, IfOk, None, length, take};
+ghost use Rattle.std.specs.Prelude.{◌≡◌, ◌≢◌, ◌≤◌, [], ◌∷◌, IfErr, IfOk, IsSome, None, length, take};
 ghost use Rattle.std.specs.IoError.{error_kind};
 ghost use Rattle.std.specs.Net.Addr.{ipv4_bits, IsIpv4OfBits};
 ghost use Rattle.std.specs.Net.Socket.{v4_ip, v4_port};
@@ -27,6 +27,7 @@ pub struct UdpLink {
 impl UdpLink {
     /// A link on this port, or on any free one where that is 0. It fails where the port can't be had.
     pub fn bind<R: Net>(net: &R, port: u16) -> io::Result<UdpLink>
+        ensures open { IfOk result (λ l. IsSome l.socket) }
         ensures told { IfOk result (λ l. ⟦<UdpLink as Link>⟧.told l ≡ None) }
         ensures faults { IfOk result (λ l. ⟦<UdpLink as Link>⟧.faults l ≡ 0) }
     {
@@ -40,6 +41,7 @@ impl UdpLink {
 
     /// A link without a socket, each call of which fails: it stands for a port that can't be had.
     pub fn without_socket() -> UdpLink
+        ensures closed { result.socket ≡ None }
         ensures told { ⟦<UdpLink as Link>⟧.told result ≡ None }
         ensures faults { ⟦<UdpLink as Link>⟧.faults result ≡ 0 }
     {
@@ -69,6 +71,9 @@ impl Link for UdpLink {
         ensures sends { TriedSends None None
             (record { to = to; bytes = take 256 bytes.now; put = result } ∷ []) }
         ensures cause { PutCounts result self.old.faults self.new.faults }
+        // Without a socket it fails, and none is bound later.
+        ensures closed { self.old.socket ≡ None → result ≡ Put.Failed }
+        ensures same { self.new.socket ≡ self.old.socket }
     {
         let sent = Datagram::from_slice(bytes);
         if let Some(socket) = &self.socket
@@ -84,6 +89,9 @@ impl Link for UdpLink {
         ensures fits { ReceiptFits result }
         ensures gives { GaveReceipts None None (result ∷ []) }
         ensures cause { ReceiptCounts result self.old.faults self.new.faults }
+        // Without a socket it fails, and none is bound later.
+        ensures closed { self.old.socket ≡ None → result ≡ Receipt.Failed }
+        ensures same { self.new.socket ≡ self.old.socket }
     {
         let receipt = match &self.socket {
             Some(socket) => recv_front(socket),
@@ -190,6 +198,7 @@ mod tests {
         let addr = SocketAddrV4::new(Ipv4Addr::LOCALHOST, to);
         if let Some(socket) = &near.socket {
             assert_eq!(rt; socket.send_to(&[7; 300], addr)?, 300);
+            assert_eq!(rt; socket.read_timeout()?, Some(Duration::from_secs(1)));
         }
         for len in [0, 3, 256, 256, 256] {
             let Receipt::Got(sender, bytes) = far.recv() else {
