@@ -114,11 +114,17 @@ impl Sink for Kept {
     }
 }
 
-/// A member of the account 1103 with three partners.
-fn conf(alloc: Global) -> Result<Conf, Fail> {
+/// The hosts of the three partners, each in 10.0.0.0.
+const HOSTS: &[u32] = &[2, 1, 3];
+
+/// A member of the account 1103 with these partners.
+fn conf(alloc: Global, hosts: &[u32]) -> Result<Conf, Fail> {
     let mut list = Vec::new(alloc);
-    for ip in [0x0A00_0002, 0x0A00_0001, 0x0A00_0003] {
-        list.push(Addr { ip, port: 123 })?;
+    for host in hosts {
+        list.push(Addr {
+            ip: 0x0A00_0000 | host,
+            port: 123,
+        })?;
     }
     if list.is_empty() {
         return Err(Fail::from("no partner"));
@@ -142,6 +148,17 @@ fn replay_bytes(
     read_fails: usize,
     write_fails: usize,
 ) -> Result<(ReplayEnd, Kept), Fail> {
+    replay_under(alloc, HOSTS, bytes, read_fails, write_fails)
+}
+
+/// The same, by a member with these partners.
+fn replay_under(
+    alloc: Global,
+    hosts: &[u32],
+    bytes: &[u8],
+    read_fails: usize,
+    write_fails: usize,
+) -> Result<(ReplayEnd, Kept), Fail> {
     let mut source = Bytes {
         bytes,
         at: 0,
@@ -155,7 +172,7 @@ fn replay_bytes(
         fails: write_fails,
         faults: 0,
     };
-    let end = replay(conf(alloc)?, &mut source, &mut sink);
+    let end = replay(conf(alloc, hosts)?, &mut source, &mut sink);
     Ok((end, sink))
 }
 
@@ -238,16 +255,102 @@ fn devices_that_fail(rt: HostRuntime) -> Result<(), Fail> {
         assert_eq!(rt; sink.bytes.as_slice(), text);
         assert_eq!(rt; sink.calls, write_fails);
     }
-    for (read_fails, sent, refused, text) in [
-        (1, 0, 0, &lines[..0]),
-        (17, 0, 0, &lines[..0]),
-        (18, 0, 0, &lines[..12]),
-        (47, 1, 0, &lines[..37]),
-        (133, 1, 1, &lines[..75]),
-    ] {
-        let (end, sink) = replay_bytes(rt.alloc(), LIVES, read_fails, 0)?;
-        assert_eq!(rt; end, ended(sent, refused, ReplayWhy::ReadFault));
-        assert_eq!(rt; sink.bytes.as_slice(), text);
+    for read_fails in 1..=133 {
+        let (sent, refused, end) = match read_fails {
+            1..=17 => (0, 0, 0),
+            18..=30 => (0, 0, 12),
+            31..=47 => (1, 0, 37),
+            48..=132 => (1, 0, 50),
+            _ => (1, 1, 75),
+        };
+        let (came, sink) = replay_bytes(rt.alloc(), LIVES, read_fails, 0)?;
+        assert_eq!(rt;
+            came,
+            ended(sent, refused, ReplayWhy::ReadFault),
+            "read {read_fails}"
+        );
+        assert_eq!(rt; sink.bytes.as_slice(), &lines[..end]);
+    }
+    Ok(())
+}
+
+// A front of the capture is done where it ends between two records, and ends at the place of the torn record else.
+#[test]
+fn captures_cut_at_each_byte(rt: HostRuntime) -> Result<(), Fail> {
+    let lives = LIVES.as_slice();
+    let lines = LINES.as_slice();
+    for cut in 0..=132 {
+        let (sent, refused, place, end) = match cut {
+            0..17 => (0, 0, 0, 0),
+            17..30 => (0, 0, 17, 12),
+            30..47 => (1, 0, 30, 37),
+            47..132 => (1, 0, 47, 50),
+            _ => (1, 1, 132, 75),
+        };
+        let (came, sink) = replay_bytes(rt.alloc(), &lives[..cut], 0, 0)?;
+        let why = if cut as u64 == place {
+            ReplayWhy::Done
+        } else {
+            ReplayWhy::BadCapture(place)
+        };
+        assert_eq!(rt; came, ended(sent, refused, why), "{cut} bytes");
+        let mut text = Vec::from_slice(rt.alloc(), &lines[..end])?;
+        if why == ReplayWhy::Done {
+            text.extend_from_slice(total_of(sent, refused))?;
+        }
+        assert_eq!(rt; sink.bytes.as_slice(), text.as_slice(), "{cut} bytes");
+    }
+    Ok(())
+}
+
+/// The total line of a front of the report.
+fn total_of(sent: u32, refused: u64) -> &'static [u8] {
+    match (sent, refused) {
+        (0, 0) => b"total sent=0 moved=0 refused=0\n",
+        (1, 0) => b"total sent=1 moved=0 refused=0\n",
+        _ => b"total sent=1 moved=0 refused=1\n",
+    }
+}
+
+// The second life of a member that took the mark 64 is followed by one with the mark 0, whose place is named.
+#[test]
+fn lives_in_the_wrong_order(rt: HostRuntime) -> Result<(), Fail> {
+    let alloc = rt.alloc();
+    let lives = LIVES.as_slice();
+    let mut bytes = Vec::from_slice(alloc, &lives[30..47])?;
+    bytes.extend_from_slice(&lives[17..30])?;
+    bytes.extend_from_slice(&lives[..30])?;
+    let (end, sink) = replay_bytes(alloc, &bytes, 0, 0)?;
+    assert_eq!(rt; end, ended(1, 0, ReplayWhy::BadCapture(30)));
+    assert_eq!(rt; sink.calls, 2);
+    Ok(())
+}
+
+// A member whose only partner is another one sends there, and the reply's sender is no partner of its.
+#[test]
+fn lives_under_other_settings(rt: HostRuntime) -> Result<(), Fail> {
+    let (end, sink) = replay_under(rt.alloc(), &[9], LIVES, 0, 0)?;
+    assert_eq!(rt; end, ended(1, 1, ReplayWhy::Done));
+    assert_eq!(rt;
+        sink.bytes.as_slice(),
+        b"life mark=0\nsend n=1 to=10.0.0.9:123\nlife mark=64\nrefused reason=BadSource\n\
+total sent=1 moved=0 refused=1\n"
+            .as_slice()
+    );
+    Ok(())
+}
+
+// No changed byte makes a device fail.
+#[test]
+fn captures_changed_at_each_byte(rt: HostRuntime) -> Result<(), Fail> {
+    for place in 0..132 {
+        let mut bytes = *LIVES;
+        bytes[place] ^= 0xFF;
+        let (end, _) = replay_bytes(rt.alloc(), &bytes, 0, 0)?;
+        assert!(rt;
+            matches!(end.why, ReplayWhy::Done | ReplayWhy::BadCapture(_)),
+            "byte {place}"
+        );
     }
     Ok(())
 }
