@@ -1,0 +1,5 @@
+pub mod Deeding
+pub mod Weaves
+pub mod Doing
+pub mod Composing
+pub mod Stopping

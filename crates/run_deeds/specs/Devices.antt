@@ -1,0 +1,196 @@
+-- What the devices of a run tell, and what a part of a run was given and did.
+use Rattle.std.specs.Prelude.{◌≡◌, ℕ, ◌+◌, ◌<◌, ℤ, List, ◌++◌, map, Option, ⊤}
+use Rattle.std.specs.List.{AllByRecursion}
+use Rattle.base_specs.specs.Counts.{Fails, FailsTimes, Rose}
+use Rattle.base_specs.specs.Told.{Added, Changed}
+use Rattle.edge_traits.specs.declared.clock.Move.{Move}
+use Rattle.edge_traits.specs.declared.link.Receipt.{Receipt}
+use Rattle.edge_traits.specs.declared.link.Tried.{Tried}
+use Rattle.edge_traits.specs.Clock.{ClockTold}
+use Rattle.edge_traits.specs.Link.{LinkTold, failed_receipts, failed_sends}
+use Rattle.capture_fmt.specs.declared.event.Event.{Event}
+use Rattle.capture_fmt.specs.declared.event.Event.TheVariants.{Life, Tick, Resync, Arrive}
+use Rattle.capture_fmt.specs.Event.{EventFits}
+use Rattle.time_machine.specs.declared.conf.Conf.{Conf}
+use Rattle.time_machine.specs.Events.{History}
+use Rattle.time_machine.specs.Machine.{Posted}
+use Rattle.run_deeds.specs.declared.life_end.Why.{Why}
+use Rattle.run_deeds.specs.declared.life_end.Why.TheVariants.{Done, DiskFault, BadVersion, StampsSpent, ClockFault, EntropyFault, SinkFault}
+use Rattle.run_deeds.specs.Weaving.{Need, Start, Turns, WordFor, ReceiptNow, ReadingFor, Call, CallReading, CallWord, Round, RoundReading}
+use Rattle.run_deeds.specs.Deeds.{Deed, Take, Print, Ending, Whole, NoRecord, NoLine, IsWhole, along, posted_in, moves_in, all_done, events_given, captured, printed}
+
+-- how often a call has failed, of each object whose fault ends a run
+pub record Faults : Type 0 where
+  pub clock : ℕ
+  pub entropy : ℕ
+  pub disk : ℕ
+  pub capture : ℕ
+  pub out : ℕ
+
+-- what the devices tell at a moment, the disk aside, and how often their calls have failed
+pub record Seen : Type 0 where
+  pub link : Option LinkTold
+  pub clock : Option ClockTold
+  pub words : Option (List ℕ)
+  pub capture : Option (List ℕ)
+  pub out : Option (List ℕ)
+  pub link_faults : ℕ
+  pub faults : Faults
+
+abbrev pub faults : (clock entropy disk capture out : ℕ) → Faults
+faults clock entropy disk capture out =
+    record { clock = clock; entropy = entropy; disk = disk; capture = capture; out = out }
+
+abbrev pub seen : Option LinkTold → Option ClockTold → Option (List ℕ) → Option (List ℕ) → Option (List ℕ) → ℕ → Faults → Seen
+seen link clock words capture out link_faults faults =
+    record { link = link; clock = clock; words = words; capture = capture; out = out; link_faults = link_faults; faults = faults }
+
+-- ---- What was given and done
+
+-- the readings, words and receipts that the devices gave
+pub record Given : Type 0 where
+  pub readings : List ℤ
+  pub words : List ℕ
+  pub receipts : List Receipt
+
+-- these receipts were given, and these sends were tried
+abbrev pub Exchanged : Option LinkTold → Option LinkTold → List Receipt → List Tried → Type 0
+Exchanged old new given tried =
+    Changed (λ (told : LinkTold). record { sends = told.sends ++ tried; receipts = told.receipts ++ given }) old new
+
+-- these readings were given, and these corrections were made
+abbrev pub Timed : Option ClockTold → Option ClockTold → List ℤ → List Move → Type 0
+Timed old new given made =
+    Changed (λ (told : ClockTold). record { readings = told.readings ++ given; moves = told.moves ++ made }) old new
+
+-- where to a send was tried, and its bytes, whatever its answer
+abbrev pub posted_of : Tried → Posted
+posted_of tried = record { to = tried.to; bytes = tried.bytes }
+
+-- All that the devices gave and took from one moment to another: this was given, and of these deeds, after this
+-- history, each record was written, each request sent, each correction made and each line printed.
+pub record Does (conf : Conf) (history : History) (given : Given) (tried : List Tried) (deeds : List Deed) (ending : Ending) (before now : Seen) : Type 0 where
+  pub link : Exchanged before.link now.link given.receipts tried
+  pub requests : map posted_of tried ≡ along (posted_in conf) history (all_done deeds ending)
+  pub clock : Timed before.clock now.clock given.readings (along (moves_in conf) history (all_done deeds ending))
+  pub words : Added before.words now.words given.words
+  pub fit : AllByRecursion EventFits (events_given deeds ending)
+  pub capture : Added before.capture now.capture (captured deeds ending)
+  pub out : Added before.out now.out (printed conf history deeds ending)
+  pub link_failed : FailsTimes (failed_receipts given.receipts + failed_sends tried) before.link_faults now.link_faults
+
+-- ---- Why a part of a run ended
+
+-- a reading is needed next, for the Life, in a turn that is left, or in a call
+abbrev pub NeedsReading : Need → Type 0
+NeedsReading (Start stood next) = ⊤
+NeedsReading (Turns left) = 0 < left
+NeedsReading (ReadingFor left from bytes) = ⊤
+NeedsReading (CallReading wait flags) = ⊤
+NeedsReading (RoundReading left from bytes) = ⊤
+NeedsReading _ = ⊥
+
+-- a word is needed next
+abbrev pub NeedsWord : Need → Type 0
+NeedsWord (WordFor left now) = ⊤
+NeedsWord (CallWord wait flags now) = ⊤
+NeedsWord _ = ⊥
+
+-- a Tick or a Resync comes next, for which a count has to be reserved
+abbrev pub NeedsCount : Need → Type 0
+NeedsCount (Turns left) = 0 < left
+NeedsCount (CallReading wait flags) = ⊤
+NeedsCount _ = ⊥
+
+-- the Life comes next, for which the disk has to be read
+abbrev pub NeedsMark : Need → Type 0
+NeedsMark (Start stood next) = ⊤
+NeedsMark _ = ⊥
+
+-- the disk is called next
+abbrev pub NeedsDisk : Need → Type 0
+NeedsDisk (Start stood next) = ⊤
+NeedsDisk (Turns left) = 0 < left
+NeedsDisk (CallReading wait flags) = ⊤
+NeedsDisk _ = ⊥
+
+-- the Tick of a turn was not taken: its reading or its word is needed next, or its record could not be written
+abbrev pub IsBeforeTick : Ending → Need → Type 0
+IsBeforeTick Whole (Turns left) = 0 < left
+IsBeforeTick Whole (WordFor left now) = ⊤
+IsBeforeTick (NoRecord (Tick now word) front) need = ⊤
+IsBeforeTick _ _ = ⊥
+
+-- one call of one object failed, and no call of another one
+abbrev pub ClockFailed : Faults → Faults → Type 0
+ClockFailed before now = Fails before.clock now.clock × (now ≡ record before { clock = now.clock })
+
+abbrev pub EntropyFailed : Faults → Faults → Type 0
+EntropyFailed before now = Fails before.entropy now.entropy × (now ≡ record before { entropy = now.entropy })
+
+abbrev pub DiskFailed : Faults → Faults → Type 0
+DiskFailed before now = Fails before.disk now.disk × (now ≡ record before { disk = now.disk })
+
+abbrev pub CaptureFailed : Faults → Faults → Type 0
+CaptureFailed before now = Fails before.capture now.capture × (now ≡ record before { capture = now.capture })
+
+abbrev pub OutFailed : Faults → Faults → Type 0
+OutFailed before now = Fails before.out now.out × (now ≡ record before { out = now.out })
+
+-- no call failed that ends a run
+pub record NoneRose (before now : Faults) : Type 0 where
+  pub clock : ¬ Rose before.clock now.clock
+  pub entropy : ¬ Rose before.entropy now.entropy
+  pub disk : ¬ Rose before.disk now.disk
+  pub capture : ¬ Rose before.capture now.capture
+  pub out : ¬ Rose before.out now.out
+
+-- the write that failed is that of the record or of the line that is not whole
+abbrev pub SinkFailed : Ending → Faults → Faults → Type 0
+SinkFailed Whole before now = ⊥
+SinkFailed (NoRecord event front) before now = CaptureFailed before now
+SinkFailed (NoLine deed front) before now = OutFailed before now
+
+-- the receipt of a turn is needed next
+abbrev pub NeedsReceipt : Need → Type 0
+NeedsReceipt (ReceiptNow left) = ⊤
+NeedsReceipt _ = ⊥
+
+-- a call, or a receipt of its round, is needed next
+abbrev pub IsInCalls : Need → Type 0
+IsInCalls Call = ⊤
+IsInCalls (Round left) = ⊤
+IsInCalls _ = ⊥
+
+-- a turn, a call, or a receipt of its round, is needed next
+abbrev pub IsBetween : Need → Type 0
+IsBetween (Turns left) = ⊤
+IsBetween Call = ⊤
+IsBetween (Round left) = ⊤
+IsBetween _ = ⊥
+
+-- what may be needed next right behind an event
+abbrev pub IsBehind : Event → Need → Type 0
+IsBehind (Life now mark) need = ⊤
+IsBehind (Tick now word) need = NeedsReceipt need
+IsBehind (Resync now word flags) need = IsInCalls need
+IsBehind (Arrive now from bytes) need = IsBetween need
+
+-- Where a sink failed, nothing was asked for behind the event whose record or line is not whole. The closing lines come
+-- when all turns were taken.
+abbrev pub StopsAt : Ending → Need → Type 0
+StopsAt Whole need = ⊥
+StopsAt (NoRecord event front) need = IsBehind event need
+StopsAt (NoLine (Take event) front) need = IsBehind event need
+StopsAt (NoLine (Print line) front) need = need ≡ Turns 0
+
+-- What each answer says of the last deed, of what is needed next, and of the calls that failed: with a fault of a
+-- device that device failed once, at the call that was due, and with any other answer no call failed.
+abbrev pub EndsBy : Why → Ending → Need → Faults → Faults → Type 0
+EndsBy Done ending need before now = IsWhole ending × (now ≡ before)
+EndsBy DiskFault ending need before now = IsWhole ending × NeedsDisk need × DiskFailed before now
+EndsBy BadVersion ending need before now = IsWhole ending × NeedsMark need × (now ≡ before)
+EndsBy StampsSpent ending need before now = IsWhole ending × NeedsCount need × (now ≡ before)
+EndsBy ClockFault ending need before now = IsWhole ending × NeedsReading need × ClockFailed before now
+EndsBy EntropyFault ending need before now = IsWhole ending × NeedsWord need × EntropyFailed before now
+EndsBy SinkFault ending need before now = StopsAt ending need × SinkFailed ending before now

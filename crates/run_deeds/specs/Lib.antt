@@ -1,0 +1,9 @@
+pub mod Weaving
+pub mod Deeds
+pub mod Counting
+pub mod Devices
+pub mod Marks
+pub mod Parts
+pub mod Rounds
+pub mod Closing
+pub mod Lives

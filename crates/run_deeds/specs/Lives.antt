@@ -1,0 +1,129 @@
+-- A whole run of so many turns: what its devices gave, the events that were woven of it, and what was done about them.
+use Rattle.std.specs.Prelude.{◌≡◌, ◌⊎◌, ◌≢◌, ℕ, ◌+◌, ◌-◌, ◌*◌, ◌/◌, ◌^◌, ◌<◌, ◌≤◌, ℤ, min, List, [], ◌∷◌, ◌++◌, length, map, reverse, take, flat_map, IfSome, ⊤}
+use Rattle.std.specs.List.{count_by}
+use Rattle.base_specs.specs.Counts.{FailsTimes}
+use Rattle.base_specs.specs.Told.{Added}
+use Rattle.line_text.specs.Text.{joined}
+use Rattle.edge_traits.specs.declared.link.Receipt.{Receipt}
+use Rattle.edge_traits.specs.declared.link.Tried.{Tried}
+use Rattle.edge_traits.specs.Link.{failed_receipts, failed_sends}
+use Rattle.capture_fmt.specs.declared.event.Event.{Event}
+use Rattle.capture_fmt.specs.declared.event.Event.TheVariants.{Life}
+use Rattle.capture_fmt.specs.Capture.{SpellsEvents}
+use Rattle.slot_disk.specs.Told.{Told as DiskTold}
+use Rattle.stamp_keep.specs.Image.{mark_of_image}
+use Rattle.stamp_keep.specs.Keep.{IsLeft, IsLoadable, StandsAsBefore}
+use Rattle.stamp_keep.specs.Slots.{HasOtherVersion}
+use Rattle.time_machine.specs.declared.conf.Conf.{Conf}
+use Rattle.time_machine.specs.Entries.{count_of, gather}
+use Rattle.time_machine.specs.Events.{History}
+use Rattle.time_machine.specs.Told.{Told, has_sent}
+use Rattle.time_machine.specs.Words.{life_at}
+use Rattle.time_machine.specs.Laws.{MovesOnce}
+use Rattle.time_machine.specs.Growing.{Grows}
+use Rattle.time_machine.specs.Machine.{told, outcome_at, requests_of, moves_of}
+use Rattle.time_machine.specs.Report.{line_of, report_of}
+use Rattle.run_deeds.specs.declared.life_end.LifeEnd.{LifeEnd}
+use Rattle.run_deeds.specs.declared.life_end.Why.{Why}
+use Rattle.run_deeds.specs.declared.life_end.Why.TheVariants.{Done, DiskFault, BadVersion, StampsSpent, SinkFault}
+use Rattle.run_deeds.specs.Weaving.{Stood, Need, Start, Turns, Weaves, weave}
+use Rattle.run_deeds.specs.Deeds.{Ending, Whole, NoRecord, NoLine, Take, Print, missing_in, cut_record, reasons_by, ticks_by}
+use Rattle.run_deeds.specs.Devices.{Seen, Given, Exchanged, Timed, EndsBy, IsBeforeTick, posted_of}
+use Rattle.run_deeds.specs.Parts.{is_quiet}
+use Rattle.run_deeds.specs.Closing.{closing_lines, closing_by}
+use Rattle.run_deeds.specs.Marks.{IsDue, KeepsLoadable, MarksBeforeSends, blocks_of}
+
+-- What was printed. All lines of the events taken, and the closing lines where the run ended well; or all lines but
+-- the last event's, and a front of that one; or all lines of all turns, and a front of the closing lines.
+abbrev pub Reports : Conf → History → LifeEnd → Ending → Need → List ℕ → Type 0
+Reports conf history end Whole need text = text ≡ report_of conf history ++ joined (closing_by end.why end)
+Reports conf history end (NoRecord event front) need text = text ≡ report_of conf history
+Reports conf history end (NoLine (Take event) front) need text =
+    (before : History) × (history ≡ event ∷ before)
+    × (text ≡ report_of conf before ++ take front (line_of (outcome_at conf before event)))
+Reports conf history end (NoLine (Print line) front) need text =
+    (before after : List (List ℕ)) × (need ≡ Turns 0) × (closing_lines end ≡ before ++ line ∷ after)
+    × (text ≡ report_of conf history ++ joined before ++ take front line)
+
+-- the numbers of a run, each as far as 32 bits go
+pub record Totals (conf : Conf) (events : List Event) (receipts : List Receipt) (tried : List Tried) (end : LifeEnd) : Type 0 where
+  pub sent : end.sent ≡ min (length (requests_of conf (reverse events))) (2 ^ 32 - 1)
+  pub moved : end.moved ≡ min (length (moves_of conf (reverse events))) (2 ^ 32 - 1)
+  pub refused : end.refused ≡ min (length (gather (λ t. reasons_by t.outcome) (told conf (reverse events)))) (2 ^ 32 - 1)
+  pub quiet : end.quiet ≡ min (count_by is_quiet receipts) (2 ^ 32 - 1)
+  pub lost : end.lost ≡ min (failed_receipts receipts + failed_sends tried) (2 ^ 32 - 1)
+  pub turns : end.turns ≡ min (length (flat_map ticks_by events)) (2 ^ 32 - 1)
+
+-- What the answers that speak of the disk say of the events taken. A disk of another version is refused before the
+-- first one, and is left as it was. No mark is left exactly where a block was due, and the mark at entry and the
+-- requests are past the last mark from which one fits. The disk failed before the first event, or where a block was
+-- due.
+abbrev pub KeptBy : Why → Stood → List Event → List Told → DiskTold → DiskTold → Type 0
+KeptBy BadVersion stood events before entry exit = (events ≡ []) × IfSome entry.content HasOtherVersion × IsLeft entry exit
+KeptBy StampsSpent stood events before entry exit =
+    (events ≢ []) × IsDue (life_at before) × (4294967231 < stood.mark + count_of has_sent (life_at before))
+KeptBy DiskFault stood events before entry exit = (events ≡ []) ⊎ IsDue (life_at before)
+KeptBy _ stood events before entry exit = ⊤
+
+-- The disk was called at most five times for each block that was reserved in a life. For one more it was called where
+-- that block was due, and the run ended before the Tick that asked for it was taken, but not for want of marks.
+abbrev pub CallsForBlocks : Why → Ending → Need → List Told → (start end : ℕ) → Type 0
+CallsForBlocks why ending need life start end =
+    (end ≤ start + 5 * blocks_of life)
+    ⊎ (IsDue life × IsBeforeTick ending need × (why ≢ StampsSpent) × (end ≤ start + 5 * (1 + blocks_of life)))
+
+-- A run. Its history is the events taken, the last one first.
+pub record Lives (conf : Conf) (turns : ℕ) (entry exit : DiskTold) (before now : Seen) (end : LifeEnd) : Type 0 where
+  -- what the disk's content stood for at entry
+  pub stood : Stood
+  pub stood_for : IfSome entry.content (λ c. stood.mark ≡ mark_of_image c)
+  -- the events that were woven of what was given, each reading, word and receipt where it was needed, and what was
+  -- needed next; all but the one whose record could not be written were taken
+  pub given : Given
+  pub events : List Event
+  pub ending : Ending
+  pub need : Need
+  pub woven : events ++ missing_in ending ≡ weave stood given.readings given.words given.receipts
+  pub weaves : Weaves conf (Start stood (Turns turns)) [] given.readings given.words given.receipts (events ++ missing_in ending) need
+  pub grows : Grows conf (reverse events)
+  -- the sends tried are the requests of that history, and the moves made its moves, of which no two answer one request
+  pub tried : List Tried
+  pub link : Exchanged before.link now.link given.receipts tried
+  pub requests : map posted_of tried ≡ requests_of conf (reverse events)
+  pub clock : Timed before.clock now.clock given.readings (moves_of conf (reverse events))
+  pub once : MovesOnce (told conf (reverse events))
+  pub words : Added before.words now.words given.words
+  -- the capture spells the history, behind which stands a front of the record that could not be written
+  pub record_bytes : List ℕ
+  pub spells : SpellsEvents events record_bytes
+  pub capture : Added before.capture now.capture (record_bytes ++ cut_record ending)
+  -- the report
+  pub text : List ℕ
+  pub reports : Reports conf (reverse events) end ending need text
+  pub out : Added before.out now.out text
+  pub totals : Totals conf events given.receipts tried end
+  -- why the run ended: exactly one call failed, or none
+  pub ends : EndsBy end.why ending need before.faults now.faults
+  pub link_failed : FailsTimes (failed_receipts given.receipts + failed_sends tried) before.link_faults now.link_faults
+  pub well : end.why ≡ Done → need ≡ Turns 0
+  -- where the record or the line of the Life could not be written, the first turn is needed next
+  pub life_last : end.why ≡ SinkFault → (now : ℤ) → events ++ missing_in ending ≡ Life now stood.mark ∷ [] → need ≡ Turns turns
+  pub kept : KeptBy end.why stood events (told conf (reverse events)) entry exit
+  -- a load doesn't refuse the disk where an event was taken, and where the answer is none of the disk
+  pub loadable : (events ≢ []) ⊎ ((end.why ≢ BadVersion) × (end.why ≢ DiskFault)) → IfSome entry.content IsLoadable
+  -- what the run leaves can be loaded again, where each image at entry could
+  pub loads : KeepsLoadable entry exit
+  -- the disk: marks before sends, no count reserved past the last one of 32 bits, at most five calls for each block and
+  -- four before the Life, and the mark at the end
+  pub marks : MarksBeforeSends entry exit stood.mark (told conf (reverse events))
+  pub within : events ≢ [] → stood.mark + 64 * blocks_of (life_at (told conf (reverse events))) < 2 ^ 32
+  pub calls : exit.time ≤ entry.time + 4 + 5 * (1 + length tried / 64)
+  pub blocks : CallsForBlocks end.why ending need (life_at (told conf (reverse events))) (entry.time + 4) exit.time
+  -- what the run leaves stands for a mark that an image at entry stood for, or for a block more at most than the
+  -- requests fill
+  pub most : (image : List ℕ) → exit.may_leave image
+      → StandsAsBefore entry image ⊎ (mark_of_image image ≤ stood.mark + 64 * (1 + length tried / 64))
+  -- where the disk was loaded, it stands for no more than that, and can be loaded
+  pub loaded : (events ≢ []) ⊎ ((end.why ≢ BadVersion) × (end.why ≢ DiskFault)) → (image : List ℕ) → exit.may_leave image
+      → IsLoadable image × (mark_of_image image ≤ stood.mark + 64 * (1 + length tried / 64))
+  pub reserved : end.why ≡ Done → IfSome exit.content (λ c. mark_of_image c ≡ stood.mark + 64 * blocks_of (life_at (told conf (reverse events))))
