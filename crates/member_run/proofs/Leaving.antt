@@ -1,0 +1,60 @@
+-- What the calls of a keeper leave on its disk.
+use Rattle.std.proofs.Common.{◌≡◌, ◌⊎◌, inl, inr, ◌+◌, ◌≤◌, ℕ, true, false, List, Option, Some, None, IfSome, is_some, ◌∙◌, arith}
+use Rattle.std.specs.Prelude.{IsSomeAnd}
+use Rattle.slot_disk.specs.Calls.{LeavesOnly}
+use Rattle.slot_disk.specs.Told.{IsDisk, Told as DiskTold}
+use Rattle.stamp_keep.specs.Image.{mark_of_image}
+use Rattle.stamp_keep.specs.declared.keeper.Keeper.{Keeper}
+use Rattle.stamp_keep.specs.Keep.{Fits, IsLoadable, RefusedAsBefore, StandsAsBefore, StandsForEither, mark_of}
+use Rattle.run_deeds.specs.Marks.{AddsNoMark, KeepsLoadable}
+use Rattle.member_run.specs.declared.running.Running.{Running}
+use Rattle.member_run.specs.Reserving.{IsLoadedFrom}
+use Rattle.member_run.specs.Running.{IsUsedUp, RisesWhereDue, kept_of}
+
+-- ---- Loads
+
+-- an image of this moment is one of those since the first call
+left_now : (old new : DiskTold) (P : List ℕ → Type 0) → IsDisk new → LeavesOnly old new P → (image : List ℕ) → new.may_leave image → P image
+left_now old new P disk run image left = run.each image (disk.counts_now old.time image run.later left)
+
+pub loaded_loads : (old new : DiskTold) → IsDisk new → LeavesOnly old new (RefusedAsBefore old) → KeepsLoadable old new
+loaded_loads old new disk run = record { each = left_now old new (RefusedAsBefore old) disk run }
+
+pub reserved_loads : (old new : DiskTold) → IsDisk new → LeavesOnly old new IsLoadable → KeepsLoadable old new
+reserved_loads old new disk run = record {
+  each = λ image left. record { from = λ other. absurd (left_now old new IsLoadable disk run image left other) };
+}
+
+-- ---- Marks
+
+pub loaded_marks : (old new : DiskTold) → IsDisk new → LeavesOnly old new (StandsAsBefore old) → AddsNoMark old new
+loaded_marks old new disk run = record { each = left_now old new (StandsAsBefore old) disk run }
+
+-- a reserve may leave a block more
+either_rises : (running : Running) (image : List ℕ) → IsUsedUp running → StandsForEither (kept_of running) (kept_of running + 64) image
+    → (mark_of_image image ≤ kept_of running) ⊎ (IsUsedUp running × (mark_of_image image ≤ kept_of running + 64))
+either_rises running image used (inl old) = inl (omega (arith, old))
+either_rises running image used (inr new) = inr (used, omega (arith, new))
+
+pub reserved_rises : (running : Running) (old new : DiskTold) → IsDisk new → IsUsedUp running → LeavesOnly old new (StandsForEither (kept_of running) (kept_of running + 64))
+    → RisesWhereDue running new
+reserved_rises running old new disk used run = record {
+  each = λ image left.
+      either_rises running image used (left_now old new (StandsForEither (kept_of running) (kept_of running + 64)) disk run image left);
+}
+
+-- ---- A keeper that was loaded
+
+told_mark : (content : Option (List ℕ)) (image : List ℕ) (mark : ℕ) → is_some content ≡ true → mark_of_image image ≡ mark → IfSome content (λ c. mark ≡ mark_of_image c)
+    → IsSomeAnd content (λ c. mark_of_image image ≡ mark_of_image c)
+told_mark None image mark is stands same = absurd (let no : false ≡ true = is in let bad : ⊥ = cc in bad)
+told_mark (Some c) image mark is stands same = stands ∙ same
+
+pub loaded_from : (old new : DiskTold) (keeper : Keeper) (P : List ℕ → Type 0) → IsDisk new → LeavesOnly old new P → Fits new keeper → IfSome old.content (λ c. mark_of keeper ≡ mark_of_image c)
+    → IsLoadedFrom old new
+loaded_from old new keeper P disk run fits mark = record {
+  each = λ image left.
+      let is : is_some new.content ≡ true = disk.tells image left in
+      let was : is_some old.content ≡ true = cc (is, run.tells) in
+      (fits.loads image left, told_mark old.content image (mark_of keeper) was (fits.stands image left) mark);
+}

@@ -1,0 +1,869 @@
+-- A whole run, from its parts.
+use Rattle.std.proofs.Common.{◌≡◌, ◌≢◌, ◌⊎◌, inl, inr, ◌<◌, ◌≤◌, ◌+◌, ◌-◌, ◌*◌, ◌/◌, ◌^◌, ℕ, zero, suc, ℤ, Bool, true, false, min, List, [], ◌∷◌, ◌++◌, length, map, flat_map, reverse, take, Option, Some, None, IfSome, IsSome, unwrap_or, refl, sym, ◌∙◌, ap, subst, arith, append_assoc, if◌then◌else◌}
+use Rattle.std.specs.List.{AllByRecursion}
+use Rattle.std.specs.Prelude.{IsSomeAnd}
+use Rattle.std.proofs.lemmas.List.{append-nil, length-map}
+use Rattle.std.proofs.lemmas.Grind.{reverse_onto}
+use Rattle.std.proofs.lemmas.Bool.Decides.{nat_tests}
+use Rattle.base_specs.specs.Counts.{Fails, FailsTimes}
+use Rattle.base_specs.specs.Told.{Added}
+use Rattle.base_specs.proofs.Telling.{added_more}
+use Rattle.line_text.specs.Text.{joined}
+use Rattle.edge_traits.specs.declared.link.Receipt.{Receipt}
+use Rattle.edge_traits.specs.declared.link.Tried.{Tried}
+use Rattle.edge_traits.specs.Clock.{ClockTold}
+use Rattle.edge_traits.specs.Link.{LinkTold, failed_receipts, failed_sends}
+use Rattle.capture_fmt.specs.declared.event.Event.{Event}
+use Rattle.capture_fmt.specs.declared.event.Event.TheVariants.{Life, Tick, Resync, Arrive}
+use Rattle.capture_fmt.specs.Event.{EventFits}
+use Rattle.capture_fmt.specs.Record.{event_bytes}
+use Rattle.slot_disk.specs.Told.{Told as DiskTold}
+use Rattle.stamp_keep.specs.Image.{mark_of_image}
+use Rattle.stamp_keep.specs.Keep.{IsLeft, IsLoadable, KeepsMarks, StandsAsBefore}
+use Rattle.stamp_keep.specs.Slots.{HasOtherVersion}
+use Rattle.time_machine.specs.declared.conf.Conf.{Conf}
+use Rattle.time_machine.specs.declared.outcome.Outcome.{Outcome}
+use Rattle.time_machine.specs.declared.outcome.Outcome.TheVariants.{Started, Idle, Sent, Moved, Refused}
+use Rattle.time_machine.specs.declared.outcome.Request.{Request}
+use Rattle.time_machine.specs.Events.{History}
+use Rattle.time_machine.specs.Told.{Told, request_sent}
+use Rattle.time_machine.specs.Words.{Words, all_sent, greatest_count, life_at, some_of, words}
+use Rattle.time_machine.specs.Machine.{told, count_at, is_due, moves_of, outcome_at, outcome_by, requests_of}
+use Rattle.time_machine.specs.Growing.{Grows}
+use Rattle.time_machine.specs.Report.{line_of, report_of}
+use Rattle.time_machine.proofs.Lists.{all_push, all_split, all_weaken}
+use Rattle.time_machine.proofs.After.{verdict_cases}
+use Rattle.time_machine.proofs.Counting.{counts_low, moves_once}
+use Rattle.time_machine.proofs.Sent.{sent_at}
+use Rattle.sntp_core.specs.Standing.{StandsForHistory, conf_of, words_of}
+use Rattle.run_deeds.specs.declared.life_end.LifeEnd.{LifeEnd}
+use Rattle.run_deeds.specs.declared.life_end.Why.{Why}
+use Rattle.run_deeds.specs.declared.life_end.Why.TheVariants.{Done, DiskFault, BadVersion, StampsSpent, ClockFault, EntropyFault, SinkFault}
+use Rattle.run_deeds.specs.Closing.{closing_by, closing_lines}
+use Rattle.run_deeds.specs.Counting.{ended, more, with_why}
+use Rattle.run_deeds.specs.Weaving.{Need, Start, Turns, WordFor, ReceiptNow, ReadingFor, Call, CallReading, CallWord, Round, RoundReading, Stood, Weaves, none, life, reads, draws, followed_by, turns_of, weave}
+use Rattle.run_deeds.specs.Deeds.{Deed, Take, Print, Ending, Whole, NoRecord, NoLine, IsWhole, all_done, along, cut_record, events_given, history_after, line_in, missing_in, posted_in, moves_in, printed, reasons_in, ticks_in}
+use Rattle.run_deeds.specs.Devices.{EndsBy, Exchanged, Faults, Given, IsBeforeTick, NeedsDisk, NeedsMark, NeedsReading, Seen, SinkFailed, StopsAt, Timed, faults, posted_of, seen}
+use Rattle.run_deeds.specs.Marks.{AddsNoMark, Covers, KeepsLoadable, MarksBeforeSends, Reserved, blocks_of}
+use Rattle.run_deeds.specs.Parts.{Part, Runs, Tallies}
+use Rattle.run_deeds.specs.Lives.{CallsForBlocks, KeptBy, Lives, Reports, Totals}
+use Rattle.run_deeds.proofs.Weaves.{is_weave}
+use Rattle.run_deeds.proofs.Composing.{runs_then}
+use Rattle.member_run.specs.declared.running.Running.{Running}
+use Rattle.member_run.specs.Running.{IsGoing, greatest_of, kept_of, member_of, totals_of}
+use Rattle.member_run.specs.Closing.{Closes}
+use Rattle.member_run.specs.Reserving.{IsLoadedFrom}
+use Rattle.member_run.specs.Starting.{HasBegun, HasStopped, IsOfStart}
+use Rattle.member_run.specs.Turning.{CallsFor, DueBy, TakesTurns}
+use Rattle.member_run.proofs.Ordered.{captured_is, ends_taken, followed_none, given_are, history_of, lines_are, moves_are, reasons_are, requests_are, reverse_last, ticks_of}
+use Rattle.member_run.proofs.Blocks.{NoLife, mark_in, mark_stays, sends_in, turns_later}
+use Rattle.member_run.proofs.Parting.{stops_behind}
+use Rattle.member_run.proofs.Turning.{later_taken, loads_then, marks_then, taken_history, whole_given}
+
+-- ---- The history of a run begins with its Life
+
+pub record BeginsLife (mark : ℕ) (events : List Event) : Type 0 where
+  pub now : ℤ
+  pub later : List Event
+  pub only : NoLife later
+  pub is : events ≡ Life now mark ∷ later
+
+pub weave_shape : (stood : Stood) (rs : List ℤ) (ws : List ℕ) (qs : List Receipt) (events missing : List Event) → events ++ missing ≡ weave stood rs ws qs
+    → (events ≡ []) ⊎ BeginsLife stood.mark events
+weave_shape stood rs ws qs [] missing is = inl refl
+weave_shape stood [] ws qs (e ∷ es) missing is = absurd (let no : e ∷ (es ++ missing) ≡ [] = is in let bad : ⊥ = cc in bad)
+weave_shape stood (now ∷ rs) ws qs (e ∷ es) missing is =
+    let same : e ∷ (es ++ missing) ≡ Life now stood.mark ∷ turns_of rs ws qs = is in
+    let rest : es ++ missing ≡ turns_of rs ws qs = cc in
+    let first : e ≡ Life now stood.mark = cc in
+    let all : NoLife (es ++ missing) = subst NoLife (sym rest) (turns_later rs ws qs) in
+    inr (record { now = now; later = es; only = (all_split _ es missing all).0; is = ap (λ (x : Event). x ∷ es) first })
+
+none_reversed : (es : List Event) → NoLife es → NoLife (reverse es)
+none_reversed [] only = tt
+none_reversed (e ∷ es) only = subst NoLife (sym (reverse_onto es e [])) (all_push _ (reverse es) e (none_reversed es only.1) only.0)
+
+-- the mark of the Life is the mark of its history
+pub life_mark : (conf : Conf) (mark : ℕ) (events : List Event) → BeginsLife mark events → mark_in conf (reverse events) ≡ Some mark
+unfolding told
+life_mark conf mark events begins =
+    let are : reverse events ≡ followed_by (Life begins.now mark ∷ []) begins.later = ap reverse begins.is ∙ sym (followed_none (Life begins.now mark ∷ begins.later)) in
+    rw are (mark_stays conf (Life begins.now mark ∷ []) begins.later begins.only)
+
+-- all requests are those of its life
+pub life_sends : (conf : Conf) (mark : ℕ) (events : List Event) → BeginsLife mark events → sends_in conf (reverse events) ≡ length (requests_of conf (reverse events))
+unfolding words
+life_sends conf mark events begins =
+    let are : reverse events ≡ reverse begins.later ++ Life begins.now mark ∷ [] = ap reverse begins.is ∙ reverse_onto begins.later (Life begins.now mark) [] in
+    rw are (sent_at conf (reverse begins.later) (Life begins.now mark) (none_reversed begins.later begins.only) refl)
+
+-- ---- Each count that was sent is above the mark
+
+with_above : (mark : ℕ) (e : Event) (o : Outcome) (before : List Told) → IfSome (request_sent e o) (λ r. mark < r.count)
+    → AllByRecursion (λ r. mark < r.count) (all_sent before) → AllByRecursion (λ r. mark < r.count) (all_sent before ++ some_of (request_sent e o))
+with_above mark e (Sent to count bytes) before above all = all_push _ (all_sent before) _ all above
+with_above mark e (Started m) before above all = rw append-nil all
+with_above mark e Idle before above all = rw append-nil all
+with_above mark e (Moved count offset how) before above all = rw append-nil all
+with_above mark e (Refused reason) before above all = rw append-nil all
+
+above_if : (mark : ℕ) (e : Event) (due : Bool) (o : Outcome) → IfSome (request_sent e o) (λ r. mark < r.count) → IfSome (request_sent e (if due then o else Idle)) (λ r. mark < r.count)
+above_if mark e true o above = above
+above_if mark e false o above = tt
+
+event_above : (conf : Conf) (w : Words) (mark : ℕ) (e : Event) → mark ≤ unwrap_or w.mark 0 → IfSome (request_sent e (outcome_by conf w e)) (λ r. mark < r.count)
+event_above conf w mark (Life now m) least = tt
+event_above conf w mark (Tick now word) least =
+    above_if mark (Tick now word) (is_due w now) _ (let above : mark < count_at w = omega (arith, least) in above)
+event_above conf w mark (Resync now word flags) least = let above : mark < count_at w = omega (arith, least) in above
+event_above conf w mark (Arrive now from bytes) least =
+    verdict_cases (λ o. IfSome (request_sent (Arrive now from bytes) o) (λ r. mark < r.count)) (λ reason. tt) conf w now from bytes (λ r e offset how. tt)
+
+all_above : (conf : Conf) (mark : ℕ) (history : History) (es : List Event) → NoLife es → mark_in conf history ≡ Some mark
+    → AllByRecursion (λ r. mark < r.count) (all_sent (told conf history)) → AllByRecursion (λ r. mark < r.count) (all_sent (told conf (followed_by history es)))
+unfolding told words
+all_above conf mark history [] only is all = all
+all_above conf mark history (e ∷ es) only is all =
+    let w = words conf (told conf history) in
+    let least : mark ≤ unwrap_or w.mark 0 = rw is (omega arith) in
+    let above = event_above conf w mark e least in
+    all_above conf mark (e ∷ history) es only.1 (mark_stays conf history (e ∷ []) (only.0, tt) ∙ is) (with_above mark e (outcome_by conf w e) (told conf history) above all)
+
+pub life_above : (conf : Conf) (mark : ℕ) (events : List Event) → BeginsLife mark events → AllByRecursion (λ r. mark < r.count) (all_sent (told conf (reverse events)))
+unfolding told
+life_above conf mark events begins =
+    let are : reverse events ≡ followed_by (Life begins.now mark ∷ []) begins.later = ap reverse begins.is ∙ sym (followed_none (Life begins.now mark ∷ begins.later)) in
+    rw are (all_above conf mark (Life begins.now mark ∷ []) begins.later begins.only refl tt)
+
+-- ---- What a run of parts gave and did, in the words of the time machine
+
+more_none : (n : ℕ) → more 0 n ≡ min n (2 ^ 32 - 1)
+more_none zero = omega arith
+more_none (suc n) = grind (arith, nat_tests)
+
+up_to_last : (n m k : ℕ) → n ≡ more 0 m → m ≡ k → n ≡ min k (2 ^ 32 - 1)
+up_to_last n m k is same = is ∙ more_none m ∙ ap (λ (x : ℕ). min x (2 ^ 32 - 1)) same
+
+totals_are : (conf : Conf) (taken : List Event) (receipts : List Receipt) (tried : List Tried) (deeds : List Deed) (new : LifeEnd) → deeds ≡ map Take taken
+    → Tallies conf [] deeds receipts tried (ended Done) new → Totals conf taken receipts tried new
+totals_are conf taken receipts tried deeds new are t = record {
+  sent = up_to_last _ _ _ t.sent (ap length (ap (along (posted_in conf) []) are ∙ sym (requests_are conf taken)));
+  moved = up_to_last _ _ _ t.moved (ap length (ap (along (moves_in conf) []) are ∙ sym (moves_are conf taken)));
+  refused = up_to_last _ _ _ t.refused (ap length (ap (along (reasons_in conf) []) are ∙ sym (reasons_are conf taken)));
+  quiet = up_to_last _ _ _ t.quiet refl;
+  lost = up_to_last _ _ _ t.lost refl;
+  turns = up_to_last _ _ _ t.turns (ap length (ap (flat_map ticks_in) are ∙ ticks_of taken));
+}
+
+-- the history of a run from its start
+pub run_history : (deeds : List Deed) (ending : Ending) (taken : List Event) → all_done deeds ending ≡ map Take taken → history_after [] (all_done deeds ending) ≡ reverse taken
+run_history deeds ending taken takes = taken_history [] deeds ending taken takes ∙ followed_none taken
+
+pub record Lived (conf : Conf) (turns : ℕ) (stood : Stood) (before now : Seen) (given : Given) (tried : List Tried) (taken : List Event) (ending : Ending) (need : Need) (end : LifeEnd) : Type 0 where
+  pub weaves : Weaves conf (Start stood (Turns turns)) [] given.readings given.words given.receipts (taken ++ missing_in ending) need
+  pub grows : Grows conf (reverse taken)
+  pub link : Exchanged before.link now.link given.receipts tried
+  pub requests : map posted_of tried ≡ requests_of conf (reverse taken)
+  pub clock : Timed before.clock now.clock given.readings (moves_of conf (reverse taken))
+  pub words : Added before.words now.words given.words
+  pub fits : AllByRecursion EventFits taken
+  pub capture : Added before.capture now.capture (flat_map event_bytes taken ++ cut_record ending)
+  pub totals : Totals conf taken given.receipts tried end
+  pub link_failed : FailsTimes (failed_receipts given.receipts + failed_sends tried) before.link_faults now.link_faults
+
+pub lived_of : (conf : Conf) (turns : ℕ) (stood : Stood) (before now : Seen) (kept kept' : ℕ) (new : LifeEnd) (why : Why)
+    (r : Runs conf (Start stood (Turns turns)) (Turns 0) [] before now kept kept' (ended Done) new why)
+    → Lived conf turns stood before now r.given r.tried r.taken r.ending r.need new
+lived_of conf turns stood before now kept kept' new why r =
+    let given = given_are r.deeds r.ending r.taken r.takes in
+    let fit : AllByRecursion EventFits (r.taken ++ missing_in r.ending) = subst (AllByRecursion EventFits) given r.does.fit in
+    let moves = ap (along (moves_in conf) []) r.takes ∙ sym (moves_are conf r.taken) in
+    record {
+      weaves = subst (λ (es : List Event). Weaves conf (Start stood (Turns turns)) [] r.given.readings r.given.words r.given.receipts es r.need) given r.weaves;
+      grows = subst (λ (h : History). Grows conf h) (run_history r.deeds r.ending r.taken r.takes) r.grows;
+      link = r.does.link;
+      requests = r.does.requests ∙ ap (along (posted_in conf) []) r.takes ∙ sym (requests_are conf r.taken);
+      clock = subst (λ (ms : List _). Timed before.clock now.clock r.given.readings ms) moves r.does.clock;
+      words = r.does.words;
+      fits = (all_split EventFits r.taken (missing_in r.ending) fit).0;
+      capture = subst (λ (bs : List ℕ). Added before.capture now.capture bs) (captured_is r.deeds r.ending r.taken r.takes) r.does.capture;
+      totals = totals_are conf r.taken r.given.receipts r.tried (all_done r.deeds r.ending) new r.takes r.tallies;
+      link_failed = r.does.link_failed;
+    }
+
+totals_with : (conf : Conf) (taken : List Event) (receipts : List Receipt) (tried : List Tried) (why : Why) (end : LifeEnd) → Totals conf taken receipts tried end
+    → Totals conf taken receipts tried (with_why why end)
+totals_with conf taken receipts tried why end t =
+    record { sent = t.sent; moved = t.moved; refused = t.refused; quiet = t.quiet; lost = t.lost; turns = t.turns }
+
+-- ---- The report
+
+closing_none : (why : Why) (end : LifeEnd) → why ≢ Done → closing_by why end ≡ []
+closing_none Done end not = absurd (not refl)
+closing_none DiskFault end not = refl
+closing_none BadVersion end not = refl
+closing_none StampsSpent end not = refl
+closing_none ClockFault end not = refl
+closing_none EntropyFault end not = refl
+closing_none SinkFault end not = refl
+
+pub reports_of : (conf : Conf) (end : LifeEnd) (deeds : List Deed) (ending : Ending) (need : Need) (taken : List Event) → all_done deeds ending ≡ map Take taken → end.why ≢ Done
+    → Reports conf (reverse taken) end ending need (printed conf [] deeds ending)
+reports_of conf end deeds Whole need taken is not =
+    let report = report_of conf (reverse taken) in
+    ap (along (line_in conf) []) is ∙ sym (lines_are conf taken) ∙ sym (append-nil report) ∙ ap (λ (ls : List (List ℕ)). report ++ joined ls) (sym (closing_none end.why end not))
+reports_of conf end deeds (NoRecord event front) need taken is not = ap (along (line_in conf) []) is ∙ sym (lines_are conf taken)
+reports_of conf end deeds (NoLine (Take event) front) need taken is not =
+    let last = ends_taken deeds (Take event) taken is in
+    let one : Take event ≡ Take last.event = last.deed_is in
+    let same : last.event ≡ event = cc in
+    let older : history_after [] deeds ≡ reverse last.before = ap (history_after []) last.deeds_are ∙ history_of [] last.before ∙ followed_none last.before in
+    let lines : along (line_in conf) [] deeds ≡ report_of conf (reverse last.before) = ap (along (line_in conf) []) last.deeds_are ∙ sym (lines_are conf last.before) in (
+      reverse last.before,
+      ap reverse last.is ∙ reverse_last last.before last.event ∙ ap (λ (e : Event). e ∷ reverse last.before) same,
+      ap (λ (l : List ℕ). l ++ take front (line_of (outcome_at conf (history_after [] deeds) event))) lines
+          ∙ ap (λ (h : History). report_of conf (reverse last.before) ++ take front (line_of (outcome_at conf h event))) older,
+    )
+reports_of conf end deeds (NoLine (Print line) front) need taken is not =
+    let last = ends_taken deeds (Print line) taken is in
+    absurd (let one : Print line ≡ Take last.event = last.deed_is in let bad : ⊥ = cc in bad)
+
+-- ---- The disk
+
+-- the requests of a run that began are those of its life
+tries : (conf : Conf) (mark : ℕ) (taken : List Event) (tried : List Tried) → BeginsLife mark taken → map posted_of tried ≡ requests_of conf (reverse taken)
+    → sends_in conf (reverse taken) ≡ length tried
+tries conf mark taken tried begins requests = life_sends conf mark taken begins ∙ ap length (sym requests) ∙ length-map tried posted_of
+
+kept_by : (conf : Conf) (why : Why) (stood : Stood) (taken : List Event) (entry exit : DiskTold) → BeginsLife stood.mark taken → DueBy why (told conf (reverse taken))
+    → KeptBy why stood taken (told conf (reverse taken)) entry exit
+kept_by conf Done stood taken entry exit begins due = tt
+kept_by conf DiskFault stood taken entry exit begins due = inr due
+kept_by conf BadVersion stood taken entry exit begins due = absurd due
+kept_by conf StampsSpent stood taken entry exit begins due =
+    let mark : unwrap_or (mark_in conf (reverse taken)) 0 ≡ stood.mark = rw (life_mark conf stood.mark taken begins) refl in
+    let above = due.1 in (
+      λ is. let no : [] ≡ Life begins.now stood.mark ∷ begins.later = sym is ∙ begins.is in let bad : ⊥ = cc in bad,
+      due.0,
+      omega (arith, mark, above),
+    )
+kept_by conf ClockFault stood taken entry exit begins due = tt
+kept_by conf EntropyFault stood taken entry exit begins due = tt
+kept_by conf SinkFault stood taken entry exit begins due = tt
+
+marks_kept : (conf : Conf) (mark greatest : ℕ) (taken : List Event) (entry exit : DiskTold) → BeginsLife mark taken → Covers exit greatest
+    → greatest ≡ greatest_count (told conf (reverse taken)) → KeepsMarks entry exit → MarksBeforeSends entry exit mark (told conf (reverse taken))
+marks_kept conf mark greatest taken entry exit begins covers is least =
+    let before = told conf (reverse taken) in
+    record {
+      above = life_above conf mark taken begins;
+      covered = λ image left.
+          all_weaken (λ r. r.count ≤ greatest_count before) (λ r. r.count ≤ mark_of_image image) (λ r low. omega (arith, low, is, covers.each image left)) (all_sent before) (counts_low before);
+      least = least;
+    }
+
+some_as : {A : Type 0} (P Q : A → Type 0) (o : Option A) → ((x : A) → P x → Q x) → IfSome o P → IfSome o Q
+some_as P Q None f h = tt
+some_as P Q (Some x) f h = f x h
+
+-- ---- What was given behind the Life
+
+-- a sink fails in taking an event
+none_ended : (deeds : List Deed) (ending : Ending) (taken : List Event) (before now : Faults) → all_done deeds ending ≡ map Take taken → SinkFailed ending before now
+    → taken ++ missing_in ending ≡ [] → ⊥
+none_ended deeds Whole taken before now takes failed nothing = failed
+none_ended deeds (NoRecord event front) [] before now takes failed nothing = let no : event ∷ [] ≡ [] = nothing in let bad : ⊥ = cc in bad
+none_ended deeds (NoRecord event front) (t ∷ ts) before now takes failed nothing = let no : t ∷ (ts ++ event ∷ []) ≡ [] = nothing in let bad : ⊥ = cc in bad
+none_ended [] (NoLine deed front) [] before now takes failed nothing = let no : deed ∷ [] ≡ [] = takes in let bad : ⊥ = cc in bad
+none_ended (d ∷ ds) (NoLine deed front) [] before now takes failed nothing = let no : d ∷ (ds ++ deed ∷ []) ≡ [] = takes in let bad : ⊥ = cc in bad
+none_ended deeds (NoLine deed front) (t ∷ ts) before now takes failed nothing = let no : t ∷ (ts ++ []) ≡ [] = nothing in let bad : ⊥ = cc in bad
+
+-- what stands alone is all that was taken
+alone : (taken missing : List Event) (e : Event) → taken ++ missing ≡ e ∷ [] → (taken ≡ [] → ⊥) → (missing ≡ []) × (taken ≡ e ∷ [])
+alone [] missing e is some = absurd (some refl)
+alone (t ∷ []) missing e is some =
+    let same : t ∷ missing ≡ e ∷ [] = is in
+    let none : missing ≡ [] = cc in
+    let first : t ≡ e = cc in
+    (none, ap (λ (x : Event). x ∷ []) first)
+alone (t ∷ u ∷ ts) missing e is some = absurd (let no : t ∷ u ∷ (ts ++ missing) ≡ e ∷ [] = is in let bad : ⊥ = cc in bad)
+
+longer : (a b : Event) (history es : List Event) (e : Event) → followed_by (a ∷ b ∷ history) es ≡ e ∷ [] → ⊥
+longer a b history [] e is = let no : a ∷ b ∷ history ≡ e ∷ [] = is in let bad : ⊥ = cc in bad
+longer a b history (x ∷ xs) e is = longer x a (b ∷ history) xs e is
+
+-- an event behind another is not alone
+not_alone : (history es : List Event) (e : Event) → (history ≡ [] → ⊥) → (es ≡ [] → ⊥) → followed_by history es ≡ e ∷ [] → ⊥
+not_alone [] es e some more is = some refl
+not_alone (h ∷ hs) [] e some more is = more refl
+not_alone (h ∷ hs) (x ∷ xs) e some more is = longer x h hs xs e is
+
+-- ---- A run, from its start and its turns
+
+-- the turns of a run, under its configuration and its mark
+record TurnsUnder (conf : Conf) (kept turns : ℕ) (history : History) (old new : Running) (entry exit : DiskTold) (before now : Seen) (why : Why) : Type 0 where
+  part : Part conf (Turns turns) (Turns 0) history before now (member_of new) kept (kept_of new) (totals_of old) (totals_of new) why
+  disk : Reserved kept (told conf history)
+      → CallsFor (told conf history) (told conf (history_after history (all_done part.runs.deeds part.runs.ending))) entry exit why
+  blocks : Reserved kept (told conf history)
+      → CallsForBlocks why part.runs.ending part.runs.need (life_at (told conf (history_after history (all_done part.runs.deeds part.runs.ending))))
+      entry.time (exit.time + 5 * blocks_of (life_at (told conf history)))
+
+turns_under : (conf : Conf) (kept turns : ℕ) (history : History) (old new : Running) (entry exit : DiskTold) (before now : Seen) (why : Why) → conf_of (member_of old) ≡ conf → kept_of old ≡ kept
+    → TakesTurns turns history old new entry exit before now why → TurnsUnder conf kept turns history old new entry exit before now why
+turns_under conf kept turns history old new entry exit before now why set mark t =
+    let P : Conf → Type 0 = λ (c : Conf). TurnsUnder c (kept_of old) turns history old new entry exit before now why in
+    let Q : ℕ → Type 0 = λ (k : ℕ). TurnsUnder conf k turns history old new entry exit before now why in
+    subst Q mark (subst P set (record { part = t.part; disk = t.disk; blocks = t.blocks }))
+
+has_mark : (running : Running) (conf : Conf) (history : History) → conf_of (member_of running) ≡ conf → StandsForHistory (member_of running) history → IsSome (words_of (member_of running)).mark
+    → IsSome (mark_in conf history)
+unfolding words
+has_mark running conf history set stands marked =
+    let P : Conf → Type 0 = λ (c : Conf). IsSome (mark_in c history) in
+    subst P set (subst (λ (w : Words). IsSome w.mark) stands.keeps marked)
+
+greatest_is : (running : Running) (conf : Conf) (history : History) → conf_of (member_of running) ≡ conf → StandsForHistory (member_of running) history
+    → greatest_of running ≡ greatest_count (told conf history)
+unfolding words
+greatest_is running conf history set stands =
+    let P : Conf → Type 0 = λ (c : Conf). greatest_of running ≡ greatest_count (told c history) in
+    subst P set (ap (λ (w : Words). w.greatest) stands.keeps)
+
+none_marked : (conf : Conf) → IsSome (mark_in conf []) → ⊥
+unfolding told
+none_marked conf is = let no : false ≡ true = is in let bad : ⊥ = cc in bad
+
+-- fewer calls, from a later moment
+blocks_within : (why : Why) (ending : Ending) (need : Need) (entries : List Told) (start start' end end' : ℕ) → start ≤ start' → end' ≤ end
+    → CallsForBlocks why ending need entries start end → CallsForBlocks why ending need entries start' end'
+blocks_within why ending need entries start start' end end' later fewer (inl few) = inl (omega (arith, later, fewer, few))
+blocks_within why ending need entries start start' end end' later fewer (inr (due, before, other, few)) = inr (due, before, other, omega (arith, later, fewer, few))
+
+-- a run whose turns were all taken reserved no more
+blocks_whole : (why : Why) (ending : Ending) (need : Need) (entries : List Told) (start end : ℕ) → ending ≡ Whole → need ≡ Turns 0
+    → CallsForBlocks why ending need entries start end → end ≤ start + 5 * blocks_of entries
+blocks_whole why ending need entries start end whole all (inl few) = few
+blocks_whole why ending need entries start end whole all (inr (due, before, other, few)) =
+    let none_left : IsBeforeTick Whole (Turns 0) = rw (whole, all) at before in
+    absurd (omega (arith, none_left))
+
+pub record Parted (conf : Conf) (turns : ℕ) (stood : Stood) (new : Running) (entry exit : DiskTold) (before now : Seen) (why : Why) : Type 0 where
+  pub runs : Runs conf (Start stood (Turns turns)) (Turns 0) [] before now stood.mark (kept_of new) (ended Done) (totals_of new) why
+  pub begins : BeginsLife stood.mark runs.taken
+  pub due : DueBy why (told conf (reverse runs.taken))
+  pub within : unwrap_or (mark_in conf (reverse runs.taken)) 0 + 64 * blocks_of (life_at (told conf (reverse runs.taken))) < 2 ^ 32
+  pub calls : exit.time ≤ entry.time + 5 * (1 + sends_in conf (reverse runs.taken) / 64)
+  pub blocks : CallsForBlocks why runs.ending runs.need (life_at (told conf (reverse runs.taken))) entry.time exit.time
+  pub most : (image : List ℕ) → exit.may_leave image → mark_of_image image ≤ unwrap_or (mark_in conf (reverse runs.taken)) 0 + 64 * (1 + sends_in conf (reverse runs.taken) / 64)
+  pub reserved : why ≡ Done → Reserved (kept_of new) (told conf (reverse runs.taken))
+  pub greatest : greatest_of new ≡ greatest_count (told conf (reverse runs.taken))
+  -- the sink that failed is none of the Life
+  pub behind : why ≡ SinkFault → (now : ℤ) → runs.taken ++ missing_in runs.ending ≡ Life now stood.mark ∷ [] → ⊥
+
+pub parted_of : (conf : Conf) (turns : ℕ) (entry mid exit : DiskTold) (before between now : Seen) (old new : Running) (why : Why) (begun : HasBegun conf (Turns turns) entry before between old) → IsGoing mid old
+    → ((history : History) → StandsForHistory (member_of old) history → TakesTurns turns history old new mid exit between now why)
+    → Parted conf turns begun.stood new mid exit before now why
+parted_of conf turns entry mid exit before between now old new why begun going took =
+    let stood = begun.stood in
+    let one = begun.part in
+    let older = history_after [] (all_done one.runs.deeds one.runs.ending) in
+    let two = turns_under conf stood.mark turns older old new mid exit between now why one.is_set begun.kept (took older one.stands) in
+    let both = runs_then conf (Start stood (Turns turns)) (Turns turns) (Turns 0) [] before between now stood.mark stood.mark (kept_of new) (ended Done) (totals_of old) (totals_of new) why one.runs two.part.runs in
+    let all = both.0 in
+    let newer = history_after older (all_done two.part.runs.deeds two.part.runs.ending) in
+    let same : newer ≡ reverse all.taken = sym both.1 ∙ run_history all.deeds all.ending all.taken all.takes in
+    let reserved : Reserved stood.mark (told conf older) = subst (λ (k : ℕ). Reserved k (told conf older)) begun.kept begun.reserved in
+    let disk = two.disk reserved in
+    let lived = lived_of conf turns stood before now stood.mark (kept_of new) (totals_of new) why all in
+    let r = two.part.runs in
+    let later : NoLife r.taken = later_taken conf turns older r.given.readings r.given.words r.given.receipts r.deeds r.ending r.need r.taken r.takes r.weaves in
+    let stays : mark_in conf newer ≡ mark_in conf older = ap (mark_in conf) (taken_history older r.deeds r.ending r.taken r.takes) ∙ mark_stays conf older r.taken later in
+    let marked : IsSome (mark_in conf older) = has_mark old conf older one.is_set one.stands going.begun.begun in
+    let Marked : History → Type 0 = λ (h : History). IsSome (mark_in conf h) in
+    let last : IsSome (mark_in conf (reverse all.taken)) = subst Marked same (subst (λ (o : Option ℕ). IsSome o) (sym stays) marked) in
+    record {
+      runs = all;
+      begins = begins_by (weave_shape stood all.given.readings all.given.words all.given.receipts all.taken (missing_in all.ending) (is_weave lived.weaves)) (λ empty. none_marked conf (subst Marked (ap reverse empty) last));
+      due = subst (λ (h : History). DueBy why (told conf h)) same disk.due;
+      within =
+          let P : History → Type 0 = λ (h : History). unwrap_or (mark_in conf h) 0 + 64 * blocks_of (life_at (told conf h)) < 2 ^ 32 in
+          subst P same disk.within;
+      most = λ image left.
+          let P : History → Type 0 = λ (h : History). mark_of_image image ≤ unwrap_or (mark_in conf h) 0 + 64 * (1 + sends_in conf h / 64) in
+          subst P same (disk.most image left);
+      calls =
+          let P : History → Type 0 = λ (h : History). exit.time ≤ mid.time + 5 * (1 + sends_in conf h / 64) in
+          subst P same (let few : P newer = omega (arith, disk.calls) in few);
+      blocks =
+          let Fit : History → Type 0 = λ (h : History). CallsForBlocks why all.ending all.need (life_at (told conf h)) mid.time exit.time in
+          subst Fit same (rw (both.2, both.3) (blocks_within why r.ending r.need (life_at (told conf newer)) mid.time mid.time _ exit.time (omega arith) (omega arith) (two.blocks reserved)));
+      reserved = λ is. subst (λ (h : History). Reserved (kept_of new) (told conf h)) same (two.part.runs.reserved is reserved);
+      greatest = greatest_is new conf newer two.part.is_set two.part.stands ∙ ap (λ (h : History). greatest_count (told conf h)) same;
+      behind = λ is time only.
+          let failed = (subst (λ (w : Why). EndsBy w r.ending r.need between.faults now.faults) is r.ends).1 in
+          let pieces = alone all.taken (missing_in all.ending) (Life time stood.mark) only (λ empty. none_marked conf (subst Marked (ap reverse empty) last)) in
+          let missing : missing_in r.ending ≡ [] = ap missing_in (sym both.2) ∙ pieces.0 in
+          let history : followed_by older r.taken ≡ Life time stood.mark ∷ [] = sym (taken_history older r.deeds r.ending r.taken r.takes) ∙ same ∙ ap reverse pieces.1 in
+          not_alone older r.taken (Life time stood.mark) (λ empty. none_marked conf (subst Marked empty marked))
+          (λ empty. none_ended r.deeds r.ending r.taken between.faults now.faults r.takes failed (ap (λ (l : List Event). l ++ missing_in r.ending) empty ∙ missing)) history;
+    }
+  where
+    begins_by : {mark : ℕ} {taken : List Event} → (taken ≡ []) ⊎ BeginsLife mark taken → (taken ≡ [] → ⊥) → BeginsLife mark taken
+    begins_by (inl empty) never = absurd (never empty)
+    begins_by (inr begins) never = begins
+
+-- ---- All that is said of a run
+
+pub lives_made : (conf : Conf) (turns : ℕ) (entry exit : DiskTold) (before now : Seen) (stood : Stood) (given : Given) (tried : List Tried) (taken : List Event) (ending : Ending) (need : Need) (end : LifeEnd) (text : List ℕ)
+    → IfSome entry.content (λ c. stood.mark ≡ mark_of_image c)
+    → Lived conf turns stood before now given tried taken ending need end
+    → Reports conf (reverse taken) end ending need text → Added before.out now.out text
+    → EndsBy end.why ending need before.faults now.faults → (end.why ≡ Done → need ≡ Turns 0)
+    → (end.why ≡ SinkFault → (now : ℤ) → taken ++ missing_in ending ≡ Life now stood.mark ∷ [] → need ≡ Turns turns)
+    → KeptBy end.why stood taken (told conf (reverse taken)) entry exit
+    → ((taken ≢ []) ⊎ ((end.why ≢ BadVersion) × (end.why ≢ DiskFault)) → IfSome entry.content IsLoadable)
+    → KeepsLoadable entry exit
+    → MarksBeforeSends entry exit stood.mark (told conf (reverse taken))
+    → (taken ≢ [] → stood.mark + 64 * blocks_of (life_at (told conf (reverse taken))) < 2 ^ 32)
+    → exit.time ≤ entry.time + 4 + 5 * (1 + length tried / 64)
+    → CallsForBlocks end.why ending need (life_at (told conf (reverse taken))) (entry.time + 4) exit.time
+    → ((image : List ℕ) → exit.may_leave image → StandsAsBefore entry image ⊎ (mark_of_image image ≤ stood.mark + 64 * (1 + length tried / 64)))
+    → ((taken ≢ []) ⊎ ((end.why ≢ BadVersion) × (end.why ≢ DiskFault)) → (image : List ℕ) → exit.may_leave image
+    → IsLoadable image × (mark_of_image image ≤ stood.mark + 64 * (1 + length tried / 64)))
+    → (end.why ≡ Done → IfSome exit.content (λ c. mark_of_image c ≡ stood.mark + 64 * blocks_of (life_at (told conf (reverse taken)))))
+    → Lives conf turns entry exit before now end
+lives_made conf turns entry exit before now stood given tried taken ending need end text stood_for lived reports out ends well life_last kept loadable loads marks within calls blocks most loaded reserved = record {
+  stood = stood;
+  stood_for = stood_for;
+  given = given;
+  events = taken;
+  ending = ending;
+  need = need;
+  woven = is_weave lived.weaves;
+  weaves = lived.weaves;
+  grows = lived.grows;
+  tried = tried;
+  link = lived.link;
+  requests = lived.requests;
+  clock = lived.clock;
+  once = moves_once conf (reverse taken) lived.grows;
+  words = lived.words;
+  record_bytes = flat_map event_bytes taken;
+  spells = record { fits = lived.fits; written = refl };
+  capture = lived.capture;
+  text = text;
+  reports = reports;
+  out = out;
+  totals = lived.totals;
+  ends = ends;
+  link_failed = lived.link_failed;
+  well = well;
+  life_last = life_last;
+  kept = kept;
+  loadable = loadable;
+  loads = loads;
+  marks = marks;
+  within = within;
+  calls = calls;
+  blocks = blocks;
+  most = most;
+  loaded = loaded;
+  reserved = reserved;
+}
+
+lived_with : (conf : Conf) (turns : ℕ) (stood : Stood) (before now : Seen) (given : Given) (tried : List Tried) (taken : List Event) (ending : Ending) (need : Need) (why : Why) (end : LifeEnd)
+    → Lived conf turns stood before now given tried taken ending need end → Lived conf turns stood before now given tried taken ending need (with_why why end)
+lived_with conf turns stood before now given tried taken ending need why end lived = record {
+  weaves = lived.weaves;
+  grows = lived.grows;
+  link = lived.link;
+  requests = lived.requests;
+  clock = lived.clock;
+  words = lived.words;
+  fits = lived.fits;
+  capture = lived.capture;
+  totals = totals_with conf taken given.receipts tried why end lived.totals;
+  link_failed = lived.link_failed;
+}
+
+-- the counts reserved above the mark of the Life are numbers of 32 bits
+within_of : (conf : Conf) (turns : ℕ) (stood : Stood) (entry exit : DiskTold) (before now : Seen) (new : Running) (why : Why) (p : Parted conf turns stood new entry exit before now why)
+    → stood.mark + 64 * blocks_of (life_at (told conf (reverse p.runs.taken))) < 2 ^ 32
+within_of conf turns stood entry exit before now new why p =
+    let mark : unwrap_or (mark_in conf (reverse p.runs.taken)) 0 ≡ stood.mark = rw (life_mark conf stood.mark p.runs.taken p.begins) refl in
+    let within = p.within in
+    omega (arith, within, mark)
+
+-- what was called of the disk before the Life, and for the blocks behind it
+disk_calls : (conf : Conf) (turns : ℕ) (stood : Stood) (entry mid exit : DiskTold) (before now : Seen) (new : Running) (why : Why) (tried : List Tried) (p : Parted conf turns stood new mid exit before now why)
+    → map posted_of tried ≡ requests_of conf (reverse p.runs.taken) → mid.time ≤ entry.time + 4 → exit.time ≤ entry.time + 4 + 5 * (1 + length tried / 64)
+disk_calls conf turns stood entry mid exit before now new why tried p requests start =
+    omega (arith, p.calls, start, tries conf stood.mark p.runs.taken tried p.begins requests)
+
+-- no image stands for more than a block above those that the requests fill
+most_of : (conf : Conf) (turns : ℕ) (stood : Stood) (mid exit : DiskTold) (before now : Seen) (new : Running) (why : Why) (tried : List Tried) (p : Parted conf turns stood new mid exit before now why)
+    → map posted_of tried ≡ requests_of conf (reverse p.runs.taken) → (image : List ℕ) → exit.may_leave image → mark_of_image image ≤ stood.mark + 64 * (1 + length tried / 64)
+most_of conf turns stood mid exit before now new why tried p requests image left =
+    let mark : unwrap_or (mark_in conf (reverse p.runs.taken)) 0 ≡ stood.mark = rw (life_mark conf stood.mark p.runs.taken p.begins) refl in
+    omega (arith, p.most image left, mark, tries conf stood.mark p.runs.taken tried p.begins requests)
+
+-- it can be loaded, as each image between the turns can
+loads_of : (mid exit : DiskTold) (running : Running) → IsGoing mid running → KeepsLoadable mid exit → (image : List ℕ) → exit.may_leave image → IsLoadable image
+loads_of mid exit running going keeps image left = λ other.
+    let was = (keeps.each image left).from other in
+    going.fits.loads was.0 was.1 was.2
+
+-- a run that a turn ended
+pub lives_stopped : (conf : Conf) (turns : ℕ) (entry mid exit : DiskTold) (before between now : Seen) (old new : Running) (why : Why) → why ≢ Done
+    → HasBegun conf (Turns turns) entry before between old → IsGoing mid old
+    → ((history : History) → StandsForHistory (member_of old) history → TakesTurns turns history old new mid exit between now why)
+    → IfSome entry.content IsLoadable → mid.time ≤ entry.time + 4 → KeepsMarks entry mid → KeepsMarks mid exit → KeepsLoadable entry mid → KeepsLoadable mid exit → Covers exit (greatest_of new)
+    → Lives conf turns entry exit before now (with_why why (totals_of new))
+lives_stopped conf turns entry mid exit before between now old new why not begun going took loads start first next loads_first loads_next covers =
+    let stood = begun.stood in
+    let p = parted_of conf turns entry mid exit before between now old new why begun going took in
+    let r = p.runs in
+    let lived = lived_of conf turns stood before now stood.mark (kept_of new) (totals_of new) why r in
+    let end = with_why why (totals_of new) in
+    lives_made conf turns entry exit before now stood r.given r.tried r.taken r.ending r.need end (printed conf [] r.deeds r.ending) begun.stood_for
+    (lived_with conf turns stood before now r.given r.tried r.taken r.ending r.need why (totals_of new) lived)
+    (reports_of conf end r.deeds r.ending r.need r.taken r.takes not) r.does.out r.ends r.well (λ is now only. absurd (p.behind is now only))
+    (kept_by conf why stood r.taken entry exit p.begins p.due) (λ any. loads) (loads_then loads_first loads_next)
+    (marks_kept conf stood.mark (greatest_of new) r.taken entry exit p.begins covers p.greatest (marks_then first next))
+    (λ some. within_of conf turns stood mid exit before now new why p)
+    (disk_calls conf turns stood entry mid exit before now new why r.tried p lived.requests start)
+    (blocks_within why r.ending r.need (life_at (told conf (reverse r.taken))) mid.time (entry.time + 4) exit.time exit.time start (omega arith) p.blocks)
+    (λ image left. inr (most_of conf turns stood mid exit before now new why r.tried p lived.requests image left))
+    (λ any image left. (loads_of mid exit old going loads_next image left, most_of conf turns stood mid exit before now new why r.tried p lived.requests image left)) (λ is. absurd (not is))
+
+-- ---- The closing lines
+
+whole_is : (ending : Ending) → IsWhole ending → ending ≡ Whole
+whole_is Whole whole = refl
+whole_is (NoRecord event front) whole = absurd whole
+whole_is (NoLine deed front) whole = absurd whole
+
+-- the report of a run whose turns were all taken
+report_whole : (conf : Conf) (deeds : List Deed) (taken : List Event) → deeds ≡ map Take taken → printed conf [] deeds Whole ≡ report_of conf (reverse taken)
+report_whole conf deeds taken is = ap (along (line_in conf) []) is ∙ sym (lines_are conf taken)
+
+-- the same where nothing but the report changed
+lived_as : (conf : Conf) (turns : ℕ) (stood : Stood) (before : Seen) (link : Option LinkTold) (clock : Option ClockTold) (words capture out out' : Option (List ℕ)) (link_faults : ℕ) (fs fs' : Faults) (given : Given) (tried : List Tried) (taken : List Event) (ending : Ending) (need : Need) (why : Why) (end : LifeEnd)
+    → missing_in ending ≡ [] → cut_record ending ≡ []
+    → Lived conf turns stood before (seen link clock words capture out link_faults fs) given tried taken Whole need end
+    → Lived conf turns stood before (seen link clock words capture out' link_faults fs') given tried taken ending need (with_why why end)
+lived_as conf turns stood before link clock words capture out out' link_faults fs fs' given tried taken ending need why end missing cut lived = record {
+  weaves = rw missing lived.weaves;
+  grows = lived.grows;
+  link = lived.link;
+  requests = lived.requests;
+  clock = lived.clock;
+  words = lived.words;
+  fits = lived.fits;
+  capture = rw cut lived.capture;
+  totals = totals_with conf taken given.receipts tried why end lived.totals;
+  link_failed = lived.link_failed;
+}
+
+-- where all turns were taken and nothing but the Life, there was none
+life_only : {conf : Conf} {turns : ℕ} {stood : Stood} {history : History} {rs : List ℤ} {ws : List ℕ} {qs : List Receipt} {es : List Event} {need : Need} {time : ℤ}
+    → Weaves conf (Start stood (Turns turns)) history rs ws qs es need → es ≡ Life time stood.mark ∷ [] → need ≡ Turns 0 → need ≡ Turns turns
+life_only none only is = absurd (let bad : ⊥ = cc in bad)
+life_only (life none) only is = refl
+life_only (life (reads none)) only is = absurd (let bad : ⊥ = cc in bad)
+life_only (life (reads (draws rest))) only is = absurd (let bad : ⊥ = cc in bad)
+
+module _ (conf : Conf) (turns : ℕ) (entry exit : DiskTold) (before : Seen) (stood : Stood) (given : Given) (tried : List Tried) (taken : List Event) (need : Need) (end : LifeEnd) (printed_text : List ℕ)
+    (link : Option LinkTold) (clock : Option ClockTold) (words capture out out' : Option (List ℕ)) (link_faults cf ef df kf of of' : ℕ)
+    (stood_for : IfSome entry.content (λ c. stood.mark ≡ mark_of_image c))
+    (lived : Lived conf turns stood before (seen link clock words capture out link_faults (faults cf ef df kf of)) given tried taken Whole need end)
+    (is_report : printed_text ≡ report_of conf (reverse taken)) (wrote : Added before.out out printed_text)
+    (same : faults cf ef df kf of ≡ before.faults) (well : need ≡ Turns 0) (loads : IfSome entry.content IsLoadable) (still : KeepsLoadable entry exit)
+    (marks : MarksBeforeSends entry exit stood.mark (told conf (reverse taken)))
+    (within : stood.mark + 64 * blocks_of (life_at (told conf (reverse taken))) < 2 ^ 32)
+    (calls : exit.time ≤ entry.time + 4 + 5 * (1 + length tried / 64))
+    (blocks : exit.time ≤ entry.time + 4 + 5 * blocks_of (life_at (told conf (reverse taken))))
+    (most : (image : List ℕ) → exit.may_leave image → mark_of_image image ≤ stood.mark + 64 * (1 + length tried / 64))
+    (loaded : (image : List ℕ) → exit.may_leave image → IsLoadable image)
+    (reserved : IfSome exit.content (λ c. mark_of_image c ≡ stood.mark + 64 * blocks_of (life_at (told conf (reverse taken))))) where
+  closes : (why : Why) → Closes end why out out' of of'
+      → Lives conf turns entry exit before (seen link clock words capture out' link_faults (faults cf ef df kf of')) (with_why why end)
+  closes Done (added, none_failed) =
+      let text = printed_text ++ joined (closing_lines end) in
+      lives_made conf turns entry exit before (seen link clock words capture out' link_faults (faults cf ef df kf of')) stood given tried taken Whole need (with_why Done end) text stood_for
+      (lived_as conf turns stood before link clock words capture out out' link_faults (faults cf ef df kf of) (faults cf ef df kf of') given tried taken Whole need Done end refl refl lived)
+      (ap (λ (l : List ℕ). l ++ joined (closing_lines end)) is_report)
+      (added_more before.out out out' printed_text (joined (closing_lines end)) wrote added)
+      (tt, ap (λ (n : ℕ). faults cf ef df kf n) none_failed ∙ same)
+      (λ is. well) (λ is now only. absurd (let bad : ⊥ = cc is in bad)) tt (λ any. loads) still marks (λ some. within) calls (inl blocks) (λ image left. inr (most image left)) (λ any image left. (loaded image left, most image left)) (λ is. reserved)
+  closes SinkFault (first, rest, line, front, are, added, fails) =
+      let cut = joined first ++ take front line in
+      let text = printed_text ++ cut in
+      let ending = NoLine (Print line) front in
+      let Failed : Faults → Type 0 = λ (f : Faults). Fails f.out of' × (faults cf ef df kf of' ≡ record f { out = of' }) in
+      lives_made conf turns entry exit before (seen link clock words capture out' link_faults (faults cf ef df kf of')) stood given tried taken ending need (with_why SinkFault end) text stood_for
+      (lived_as conf turns stood before link clock words capture out out' link_faults (faults cf ef df kf of) (faults cf ef df kf of') given tried taken ending need SinkFault end refl refl lived)
+      (first, rest, well, are, ap (λ (l : List ℕ). l ++ cut) is_report ∙ sym (append_assoc (report_of conf (reverse taken)) (joined first) (take front line)))
+      (added_more before.out out out' printed_text cut wrote added)
+      (well, subst Failed same (fails, refl))
+      (λ is. well) (λ is now only. life_only lived.weaves (ap (λ (l : List Event). taken ++ l) refl ∙ only) well) tt (λ any. loads) still marks (λ some. within) calls (inl blocks) (λ image left. inr (most image left)) (λ any image left. (loaded image left, most image left)) (λ is. reserved)
+  closes DiskFault never = absurd never
+  closes BadVersion never = absurd never
+  closes StampsSpent never = absurd never
+  closes ClockFault never = absurd never
+  closes EntropyFault never = absurd never
+
+-- the mark at the end of a run whose turns were all taken
+reserved_at : (conf : Conf) (turns : ℕ) (stood : Stood) (entry exit : DiskTold) (before now : Seen) (new : Running) (p : Parted conf turns stood new entry exit before now Done) → IsGoing exit new
+    → IfSome exit.content (λ c. mark_of_image c ≡ stood.mark + 64 * blocks_of (life_at (told conf (reverse p.runs.taken))))
+reserved_at conf turns stood entry exit before now new p going =
+    let blocks = (p.reserved refl).blocks in
+    let mark : unwrap_or (mark_in conf (reverse p.runs.taken)) 0 ≡ stood.mark = rw (life_mark conf stood.mark p.runs.taken p.begins) refl in
+    some_as _ _ exit.content (λ c is. omega (arith, is, blocks, mark)) going.fits.content
+
+pub lives_closed : (conf : Conf) (turns : ℕ) (entry mid exit : DiskTold) (before between : Seen) (link : Option LinkTold) (clock : Option ClockTold) (words capture out out' : Option (List ℕ)) (link_faults cf ef df kf of of' : ℕ) (old new : Running) (why : Why)
+    → HasBegun conf (Turns turns) entry before between old → IsGoing mid old
+    → ((history : History) → StandsForHistory (member_of old) history → TakesTurns turns history old new mid exit between (seen link clock words capture out link_faults (faults cf ef df kf of)) Done)
+    → IfSome entry.content IsLoadable → mid.time ≤ entry.time + 4 → KeepsMarks entry mid → KeepsMarks mid exit → KeepsLoadable entry mid → KeepsLoadable mid exit
+    → Covers exit (greatest_of new) → IsGoing exit new
+    → Closes (totals_of new) why out out' of of'
+    → Lives conf turns entry exit before (seen link clock words capture out' link_faults (faults cf ef df kf of')) (with_why why (totals_of new))
+lives_closed conf turns entry mid exit before between link clock words capture out out' link_faults cf ef df kf of of' old new why begun going took loads start first next loads_first loads_next covers goes closing =
+    let stood = begun.stood in
+    let taken : Seen = seen link clock words capture out link_faults (faults cf ef df kf of) in
+    let p = parted_of conf turns entry mid exit before between taken old new Done begun going took in
+    let r = p.runs in
+    let whole = whole_is r.ending r.ends.0 in
+    let lived = lived_of conf turns stood before taken stood.mark (kept_of new) (totals_of new) Done r in
+    let takes = rw whole at r.takes in
+    closes conf turns entry exit before stood r.given r.tried r.taken r.need (totals_of new) (printed conf [] r.deeds Whole)
+    link clock words capture out out' link_faults cf ef df kf of of' begun.stood_for (rw whole at lived) (report_whole conf r.deeds r.taken takes) (rw whole at r.does.out)
+    r.ends.1 (r.well refl) loads (loads_then loads_first loads_next) (marks_kept conf stood.mark (greatest_of new) r.taken entry exit p.begins covers p.greatest (marks_then first next))
+    (within_of conf turns stood mid exit before taken new Done p)
+    (disk_calls conf turns stood entry mid exit before taken new Done r.tried p lived.requests start)
+    (let few = blocks_whole Done r.ending r.need (life_at (told conf (reverse r.taken))) mid.time exit.time whole (r.well refl) p.blocks in omega (arith, few, start))
+    (most_of conf turns stood mid exit before taken new Done r.tried p lived.requests) (loads_of mid exit old going loads_next) (reserved_at conf turns stood mid exit before taken new p goes) why closing
+
+-- ---- A run that ended in its first part
+
+-- what is needed where a run would take so many turns, for what is needed where it would take none
+abbrev start_need : ℕ → Need → Need
+start_need turns (Start stood next) = Start stood (Turns turns)
+start_need turns (Turns left) = Turns left
+start_need turns (WordFor left now) = WordFor left now
+start_need turns (ReceiptNow left) = ReceiptNow left
+start_need turns (ReadingFor left from bytes) = ReadingFor left from bytes
+start_need turns Call = Turns turns
+start_need turns (CallReading wait flags) = CallReading wait flags
+start_need turns (CallWord wait flags now) = CallWord wait flags now
+start_need turns (Round left) = Round left
+start_need turns (RoundReading left from bytes) = RoundReading left from bytes
+
+start_weaves : {conf : Conf} {turns : ℕ} {stood : Stood} {history : History} {rs : List ℤ} {ws : List ℕ} {qs : List Receipt} {es : List Event} {need : Need}
+    → Weaves conf (Start stood Call) history rs ws qs es need → Weaves conf (Start stood (Turns turns)) history rs ws qs es (start_need turns need)
+start_weaves none = none
+start_weaves (life none) = life none
+
+-- the events are none, or the Life alone
+abbrev AtStart : ℕ → List Event → Type 0
+AtStart mark es = (es ≡ []) ⊎ ((now : ℤ) × (es ≡ Life now mark ∷ []))
+
+at_start : {conf : Conf} {stood : Stood} {history : History} {rs : List ℤ} {ws : List ℕ} {qs : List Receipt} {es : List Event} {need : Need}
+    → Weaves conf (Start stood Call) history rs ws qs es need → AtStart stood.mark es
+at_start none = inl refl
+at_start (life {now = now} none) = inr (now, refl)
+
+-- before the Life
+start_none : {conf : Conf} {stood : Stood} {history : History} {rs : List ℤ} {ws : List ℕ} {qs : List Receipt} {es : List Event} {need : Need}
+    → Weaves conf (Start stood Call) history rs ws qs es need → need ≡ Call ⊎ (es ≡ [])
+start_none none = inr refl
+start_none (life none) = inl refl
+
+start_disk : (turns : ℕ) (need : Need) → NeedsDisk need → NeedsDisk (start_need turns need)
+start_disk turns (Start stood next) needs = tt
+start_disk turns (Turns left) needs = needs
+start_disk turns (WordFor left now) needs = absurd needs
+start_disk turns (ReceiptNow left) needs = absurd needs
+start_disk turns (ReadingFor left from bytes) needs = absurd needs
+start_disk turns Call needs = absurd needs
+start_disk turns (CallReading wait flags) needs = tt
+start_disk turns (CallWord wait flags now) needs = absurd needs
+start_disk turns (Round left) needs = absurd needs
+start_disk turns (RoundReading left from bytes) needs = absurd needs
+
+start_mark : (turns : ℕ) (need : Need) → NeedsMark need → NeedsMark (start_need turns need)
+start_mark turns (Start stood next) needs = tt
+start_mark turns (Turns left) needs = absurd needs
+start_mark turns (WordFor left now) needs = absurd needs
+start_mark turns (ReceiptNow left) needs = absurd needs
+start_mark turns (ReadingFor left from bytes) needs = absurd needs
+start_mark turns Call needs = absurd needs
+start_mark turns (CallReading wait flags) needs = absurd needs
+start_mark turns (CallWord wait flags now) needs = absurd needs
+start_mark turns (Round left) needs = absurd needs
+start_mark turns (RoundReading left from bytes) needs = absurd needs
+
+start_reading : (turns : ℕ) (need : Need) → NeedsReading need → NeedsReading (start_need turns need)
+start_reading turns (Start stood next) needs = tt
+start_reading turns (Turns left) needs = needs
+start_reading turns (WordFor left now) needs = absurd needs
+start_reading turns (ReceiptNow left) needs = absurd needs
+start_reading turns (ReadingFor left from bytes) needs = tt
+start_reading turns Call needs = absurd needs
+start_reading turns (CallReading wait flags) needs = tt
+start_reading turns (CallWord wait flags now) needs = absurd needs
+start_reading turns (Round left) needs = absurd needs
+start_reading turns (RoundReading left from bytes) needs = tt
+
+start_stops : (turns mark : ℕ) (deeds : List Deed) (ending : Ending) (taken : List Event) (need : Need) (a b : Faults) → all_done deeds ending ≡ map Take taken
+    → AtStart mark (events_given deeds ending) → SinkFailed ending a b → StopsAt ending (start_need turns need)
+start_stops turns mark deeds ending taken need a b takes (inl nothing) failed =
+    absurd (none_ended deeds ending taken a b takes failed (sym (given_are deeds ending taken takes) ∙ nothing))
+start_stops turns mark deeds ending taken need a b takes (inr (now, is)) failed =
+    stops_behind deeds ending (Life now mark) taken (start_need turns need) a b is takes tt failed
+
+-- behind the Life the first turn is needed
+first_turn : (turns : ℕ) (need : Need) (es : List Event) (e : Event) → (need ≡ Call) ⊎ (es ≡ []) → es ≡ e ∷ [] → start_need turns need ≡ Turns turns
+first_turn turns need es e (inl is) only = ap (start_need turns) is
+first_turn turns need es e (inr nothing) only = absurd (let bad : ⊥ = cc (nothing, only) in bad)
+
+start_ends : (turns mark : ℕ) (why : Why) (deeds : List Deed) (ending : Ending) (taken : List Event) (need : Need) (a b : Faults) → IsOfStart why
+    → all_done deeds ending ≡ map Take taken → AtStart mark (events_given deeds ending) → EndsBy why ending need a b → EndsBy why ending (start_need turns need) a b
+start_ends turns mark Done deeds ending taken need a b of takes at ends = absurd of
+start_ends turns mark DiskFault deeds ending taken need a b of takes at ends = (ends.0, start_disk turns need ends.1, ends.2)
+start_ends turns mark BadVersion deeds ending taken need a b of takes at ends = (ends.0, start_mark turns need ends.1, ends.2)
+start_ends turns mark StampsSpent deeds ending taken need a b of takes at ends = absurd of
+start_ends turns mark ClockFault deeds ending taken need a b of takes at ends = (ends.0, start_reading turns need ends.1, ends.2)
+start_ends turns mark EntropyFault deeds ending taken need a b of takes at ends = absurd of
+start_ends turns mark SinkFault deeds ending taken need a b of takes at ends = (start_stops turns mark deeds ending taken need a b takes at ends.1, ends.1)
+
+never_done : (why : Why) → IsOfStart why → why ≢ Done
+never_done Done of is = of
+never_done DiskFault of is = let bad : ⊥ = cc in bad
+never_done BadVersion of is = let bad : ⊥ = cc in bad
+never_done StampsSpent of is = of
+never_done ClockFault of is = let bad : ⊥ = cc in bad
+never_done EntropyFault of is = of
+never_done SinkFault of is = let bad : ⊥ = cc in bad
+
+start_runs : (conf : Conf) (turns : ℕ) (stood : Stood) (before now : Seen) (kept kept' : ℕ) (end : LifeEnd) (why : Why) → IsOfStart why
+    → Runs conf (Start stood Call) Call [] before now kept kept' (ended Done) end why → Runs conf (Start stood (Turns turns)) (Turns 0) [] before now kept kept' (ended Done) end why
+start_runs conf turns stood before now kept kept' end why of r = record {
+  given = r.given;
+  tried = r.tried;
+  deeds = r.deeds;
+  ending = r.ending;
+  need = start_need turns r.need;
+  weaves = start_weaves r.weaves;
+  does = r.does;
+  taken = r.taken;
+  takes = r.takes;
+  grows = r.grows;
+  tallies = r.tallies;
+  ends = start_ends turns stood.mark why r.deeds r.ending r.taken r.need before.faults now.faults of r.takes (at_start r.weaves) r.ends;
+  well = λ is. absurd (never_done why of is);
+  reserved = r.reserved;
+}
+
+taken_start : (mark : ℕ) (taken missing : List Event) → AtStart mark (taken ++ missing) → AtStart mark taken
+taken_start mark [] missing at = inl refl
+taken_start mark (t ∷ ts) missing (inl is) = absurd (let no : t ∷ (ts ++ missing) ≡ [] = is in let bad : ⊥ = cc in bad)
+taken_start mark (t ∷ []) missing (inr (now, is)) =
+    let same : t ∷ missing ≡ Life now mark ∷ [] = is in
+    let first : t ≡ Life now mark = cc in
+    inr (now, ap (λ (e : Event). e ∷ []) first)
+taken_start mark (t ∷ u ∷ ts) missing (inr (now, is)) =
+    absurd (let no : t ∷ u ∷ (ts ++ missing) ≡ Life now mark ∷ [] = is in let bad : ⊥ = cc in bad)
+
+-- nothing is sent up to the Life
+none_sent : (conf : Conf) (mark : ℕ) (taken : List Event) → AtStart mark taken → all_sent (told conf (reverse taken)) ≡ []
+unfolding told
+none_sent conf mark taken (inl is) = rw is refl
+none_sent conf mark taken (inr (now, is)) = rw is refl
+
+-- nothing is reserved up to the Life, whose mark is a number of 32 bits
+start_within : (conf : Conf) (mark : ℕ) (taken : List Event) → AtStart mark taken → AllByRecursion EventFits taken → taken ≢ []
+    → mark + 64 * blocks_of (life_at (told conf (reverse taken))) < 2 ^ 32
+unfolding told
+start_within conf mark taken (inl is) fit some = absurd (some is)
+start_within conf mark taken (inr (now, is)) fit some =
+    let one : AllByRecursion EventFits (Life now mark ∷ []) = subst (AllByRecursion EventFits) is fit in
+    let low = one.0.1 in
+    rw is (omega (arith, low))
+
+-- the disk is called before the Life
+before_life : (deeds : List Deed) (ending : Ending) (need : Need) (taken : List Event) → all_done deeds ending ≡ map Take taken → IsWhole ending → NeedsMark need ⊎ NeedsDisk need
+    → (need ≡ Call) ⊎ (events_given deeds ending ≡ []) → taken ≡ []
+before_life deeds ending need taken takes whole (inl needs) (inl is) = absurd (subst NeedsMark is needs)
+before_life deeds ending need taken takes whole (inr needs) (inl is) = absurd (subst NeedsDisk is needs)
+before_life deeds ending need taken takes whole needs (inr is) = sym (whole_given deeds ending taken whole takes) ∙ is
+
+kept_at_start : (why : Why) (conf : Conf) (stood : Stood) (entry exit : DiskTold) (before now : Seen) (deeds : List Deed) (ending : Ending) (need : Need) (taken : List Event) (told_before : List Told) → IsOfStart why
+    → all_done deeds ending ≡ map Take taken → (need ≡ Call) ⊎ (events_given deeds ending ≡ []) → EndsBy why ending need before.faults now.faults
+    → (why ≡ BadVersion → IfSome entry.content HasOtherVersion) → (why ≡ BadVersion → IsLeft entry exit) → KeptBy why stood taken told_before entry exit
+kept_at_start Done conf stood entry exit before now deeds ending need taken told_before of takes first ends version left = tt
+kept_at_start DiskFault conf stood entry exit before now deeds ending need taken told_before of takes first ends version left =
+    inl (before_life deeds ending need taken takes ends.0 (inr ends.1) first)
+kept_at_start BadVersion conf stood entry exit before now deeds ending need taken told_before of takes first ends version left =
+    (before_life deeds ending need taken takes ends.0 (inl ends.1) first, version refl, left refl)
+kept_at_start StampsSpent conf stood entry exit before now deeds ending need taken told_before of takes first ends version left = absurd of
+kept_at_start ClockFault conf stood entry exit before now deeds ending need taken told_before of takes first ends version left = tt
+kept_at_start EntropyFault conf stood entry exit before now deeds ending need taken told_before of takes first ends version left = tt
+kept_at_start SinkFault conf stood entry exit before now deeds ending need taken told_before of takes first ends version left = tt
+
+-- what ended at the disk took no event
+begun_not : (why : Why) (before now : Seen) (deeds : List Deed) (ending : Ending) (need : Need) (taken : List Event) → IsOfStart why
+    → all_done deeds ending ≡ map Take taken → (need ≡ Call) ⊎ (events_given deeds ending ≡ []) → EndsBy why ending need before.faults now.faults
+    → taken ≢ [] → (why ≢ BadVersion) × (why ≢ DiskFault)
+begun_not Done before now deeds ending need taken of takes first ends some = absurd of
+begun_not DiskFault before now deeds ending need taken of takes first ends some = absurd (some (before_life deeds ending need taken takes ends.0 (inr ends.1) first))
+begun_not BadVersion before now deeds ending need taken of takes first ends some = absurd (some (before_life deeds ending need taken takes ends.0 (inl ends.1) first))
+begun_not StampsSpent before now deeds ending need taken of takes first ends some = absurd of
+begun_not ClockFault before now deeds ending need taken of takes first ends some = (λ is. cc is, λ is. cc is)
+begun_not EntropyFault before now deeds ending need taken of takes first ends some = absurd of
+begun_not SinkFault before now deeds ending need taken of takes first ends some = (λ is. cc is, λ is. cc is)
+
+-- a load doesn't refuse the disk of a run that took its Life, or that the disk didn't end
+loadable_of : {Refusals Taken Loads : Type 0} → (Taken → Refusals) → (Refusals → Loads) → Taken ⊎ Refusals → Loads
+loadable_of f loads (inl some) = loads (f some)
+loadable_of f loads (inr neither) = loads neither
+
+-- an image of a disk that was loaded stands for the mark of the Life
+from_mark : (entry exit : DiskTold) (stood : Stood) (image : List ℕ) (n : ℕ) → IfSome entry.content (λ c. stood.mark ≡ mark_of_image c)
+    → IsLoadable image × IsSomeAnd entry.content (λ c. mark_of_image image ≡ mark_of_image c) → IsLoadable image × (mark_of_image image ≤ stood.mark + 64 * (1 + n / 64))
+from_mark entry exit stood image n stood_for from = (from.0, by_content entry.content stood_for from.1)
+  where
+    by_content : (content : Option (List ℕ)) → IfSome content (λ c. stood.mark ≡ mark_of_image c) → IsSomeAnd content (λ c. mark_of_image image ≡ mark_of_image c)
+        → mark_of_image image ≤ stood.mark + 64 * (1 + n / 64)
+    by_content None is same = absurd same
+    by_content (Some c) is same = omega (arith, is, same)
+
+pub lives_never : (conf : Conf) (turns : ℕ) (entry exit : DiskTold) (before now : Seen) (why : Why) → IsOfStart why → HasStopped conf Call entry before now why
+    → (why ≡ BadVersion → IfSome entry.content HasOtherVersion) → (why ≡ BadVersion → IsLeft entry exit) → (why ≢ BadVersion → why ≢ DiskFault → IfSome entry.content IsLoadable)
+    → exit.time ≤ entry.time + 4 → KeepsMarks entry exit → KeepsLoadable entry exit → AddsNoMark entry exit → (why ≢ BadVersion → why ≢ DiskFault → IsLoadedFrom entry exit)
+    → Lives conf turns entry exit before now (ended why)
+unfolding start_runs
+lives_never conf turns entry exit before now why of stopped version left loads calls least still adds from =
+    let stood = stopped.stood in
+    let r = stopped.runs in
+    let all = start_runs conf turns stood before now stood.mark stood.mark (ended Done) why of r in
+    let lived = lived_of conf turns stood before now stood.mark stood.mark (ended Done) why all in
+    let not = never_done why of in
+    let at : AtStart stood.mark (all.taken ++ missing_in all.ending) = subst (AtStart stood.mark) (given_are all.deeds all.ending all.taken all.takes) (at_start r.weaves) in
+    let sent = none_sent conf stood.mark all.taken (taken_start stood.mark all.taken (missing_in all.ending) at) in
+    let P : List Request → Type 0 = λ (rs : List Request). AllByRecursion (λ q. stood.mark < q.count) rs in
+    let Q : List ℕ → List Request → Type 0 = λ (image : List ℕ) (rs : List Request). AllByRecursion (λ q. q.count ≤ mark_of_image image) rs in
+    lives_made conf turns entry exit before now stood all.given all.tried all.taken all.ending all.need (ended why) (printed conf [] all.deeds all.ending) stopped.stood_for
+    (lived_with conf turns stood before now all.given all.tried all.taken all.ending all.need why (ended Done) lived)
+    (reports_of conf (ended why) all.deeds all.ending all.need all.taken all.takes not) all.does.out all.ends (λ is. absurd (not is))
+    (λ is time only. first_turn turns r.need (events_given r.deeds r.ending) (Life time stood.mark) (start_none r.weaves) (given_are r.deeds r.ending r.taken r.takes ∙ only))
+    (kept_at_start why conf stood entry exit before now r.deeds r.ending r.need r.taken (told conf (reverse all.taken)) of r.takes (start_none r.weaves) r.ends version left)
+    (loadable_of (begun_not why before now r.deeds r.ending r.need r.taken of r.takes (start_none r.weaves) r.ends) (λ neither. loads neither.0 neither.1))
+    still
+    (record { above = subst P (sym sent) tt; covered = λ image left. subst (Q image) (sym sent) tt; least = least })
+    (start_within conf stood.mark all.taken (taken_start stood.mark all.taken (missing_in all.ending) at) lived.fits)
+    (omega (arith, calls)) (inl (omega (arith, calls))) (λ image left. inl (adds.each image left))
+    (loadable_of (begun_not why before now r.deeds r.ending r.need r.taken of r.takes (start_none r.weaves) r.ends)
+    (λ neither image left. from_mark entry exit stood image (length all.tried) stopped.stood_for ((from neither.0 neither.1).each image left)))
+    (λ is. absurd (not is))

@@ -1,0 +1,165 @@
+-- What taking one event does, whichever call fails.
+use Rattle.std.proofs.Common.{◌≡◌, ◌+◌, ℕ, List, [], ◌∷◌, length, map, take, Option, refl, sym, ◌∙◌, ap, subst, arith}
+use Rattle.std.proofs.lemmas.List.{append-nil}
+use Rattle.base_specs.specs.Counts.{FailsTimes}
+use Rattle.base_specs.specs.Told.{Added}
+use Rattle.base_specs.proofs.Counting.{fails_none}
+use Rattle.base_specs.proofs.Telling.{added_none}
+use Rattle.edge_traits.specs.declared.link.Tried.{Tried}
+use Rattle.edge_traits.specs.declared.clock.Move.{Move}
+use Rattle.edge_traits.specs.Clock.{ClockTold}
+use Rattle.edge_traits.specs.Link.{LinkTold, failed_sends}
+use Rattle.capture_fmt.specs.declared.event.Event.{Event}
+use Rattle.capture_fmt.specs.Event.{EventFits}
+use Rattle.capture_fmt.specs.Record.{event_bytes}
+use Rattle.time_machine.specs.declared.conf.Conf.{Conf}
+use Rattle.time_machine.specs.declared.outcome.Outcome.{Outcome}
+use Rattle.time_machine.specs.declared.outcome.Reason.{Reason}
+use Rattle.time_machine.specs.Events.{History}
+use Rattle.time_machine.specs.Machine.{Posted, moves_by, outcome_at, posted_by}
+use Rattle.time_machine.specs.Report.{line_of}
+use Rattle.sntp_core.specs.declared.member.Member.{Member}
+use Rattle.sntp_core.specs.Standing.{StandsForHistory, conf_of}
+use Rattle.run_deeds.specs.declared.life_end.LifeEnd.{LifeEnd}
+use Rattle.run_deeds.specs.declared.life_end.Why.{Why}
+use Rattle.run_deeds.specs.declared.life_end.Why.TheVariants.{Done, DiskFault, BadVersion, StampsSpent, ClockFault, EntropyFault, SinkFault}
+use Rattle.run_deeds.specs.Counting.{counted, more}
+use Rattle.run_deeds.specs.Deeds.{Take, Whole, NoRecord, NoLine, along, moves_in, posted_in, reasons_by, ticks_by}
+use Rattle.run_deeds.specs.Devices.{faults, posted_of, seen}
+use Rattle.run_deeds.specs.Parts.{Tallies}
+use Rattle.run_deeds.proofs.Doing.{exchanged_none, made_moves, timed_none, tried_sends}
+use Rattle.run_deeds.proofs.Stopping.{tallies_none}
+use Rattle.member_run.specs.Asking.{WrittenBy}
+use Rattle.member_run.specs.Taking.{Acts, Takes, nothing}
+
+-- the record could not be written
+pub no_record : (conf : Conf) (history : History) (event : Event) (member : Member) (link : Option LinkTold) (clock : Option ClockTold) (words capture capture' out : Option (List ℕ))
+    (link_faults cf ef df kf kf' of : ℕ) (end : LifeEnd) → conf_of member ≡ conf → StandsForHistory member history → EventFits event
+    → WrittenBy SinkFault (event_bytes event) capture capture' kf kf'
+    → Takes conf history event nothing (seen link clock words capture out link_faults (faults cf ef df kf of)) (seen link clock words capture' out link_faults (faults cf ef df kf' of)) member end end SinkFault
+no_record conf history event member link clock words capture capture' out link_faults cf ef df kf kf' of end is_set stands fits (front, added, fails) = record {
+  tried = [];
+  deeds = [];
+  ending = NoRecord event front;
+  events = refl;
+  taken = [];
+  takes = refl;
+  does = record {
+    link = exchanged_none link;
+    requests = refl;
+    clock = timed_none clock;
+    words = added_none words;
+    fit = (fits, tt);
+    capture = added;
+    out = added_none out;
+    link_failed = fails_none link_faults;
+  };
+  is_set = is_set;
+  stands = stands;
+  tallies = tallies_none conf history end;
+  ends = (fails, refl);
+}
+
+-- ---- The record is there
+
+-- what was counted of an event
+tallies_one : (conf : Conf) (history : History) (event : Event) (outcome : Outcome) (tried : List Tried) (end mid new : LifeEnd)
+    → outcome ≡ outcome_at conf history event → mid ≡ counted event outcome end → new ≡ record mid { lost = more mid.lost (failed_sends tried) }
+    → Tallies conf history (Take event ∷ []) [] tried end new
+tallies_one conf history event outcome tried end mid new leads was is =
+    let lost : failed_sends tried ≡ 0 + failed_sends tried = omega arith in
+    let after = outcome_at conf history event in
+    record {
+      sent = ap (λ (e : LifeEnd). e.sent) is ∙ ap (λ (e : LifeEnd). e.sent) was ∙ ap (λ (o : Outcome). more end.sent (length (posted_by o))) leads
+          ∙ ap (λ (l : List Posted). more end.sent (length l)) (sym (append-nil (posted_by after)));
+      moved = ap (λ (e : LifeEnd). e.moved) is ∙ ap (λ (e : LifeEnd). e.moved) was ∙ ap (λ (o : Outcome). more end.moved (length (moves_by o))) leads
+          ∙ ap (λ (l : List Move). more end.moved (length l)) (sym (append-nil (moves_by after)));
+      refused = ap (λ (e : LifeEnd). e.refused) is ∙ ap (λ (e : LifeEnd). e.refused) was ∙ ap (λ (o : Outcome). more end.refused (length (reasons_by o))) leads
+          ∙ ap (λ (l : List Reason). more end.refused (length l)) (sym (append-nil (reasons_by after)));
+      quiet = ap (λ (e : LifeEnd). e.quiet) is ∙ ap (λ (e : LifeEnd). e.quiet) was;
+      lost = ap (λ (e : LifeEnd). e.lost) is ∙ ap (λ (e : LifeEnd). more e.lost (failed_sends tried)) was ∙ ap (more end.lost) lost;
+      turns = ap (λ (e : LifeEnd). e.turns) is ∙ ap (λ (e : LifeEnd). e.turns) was
+          ∙ ap (λ (l : List Event). more end.turns (length l)) (sym (append-nil (ticks_by event)));
+      why = ap (λ (e : LifeEnd). e.why) is ∙ ap (λ (e : LifeEnd). e.why) was;
+    }
+
+-- the requests and the corrections of an event that was done about, whole or but for its line
+requests_one : (conf : Conf) (history : History) (event : Event) (outcome : Outcome) (tried : List Tried) → outcome ≡ outcome_at conf history event
+    → map posted_of tried ≡ posted_by outcome → map posted_of tried ≡ along (posted_in conf) history (Take event ∷ [])
+requests_one conf history event outcome tried leads are =
+    are ∙ ap posted_by leads ∙ sym (append-nil (posted_by (outcome_at conf history event)))
+
+moves_one : (conf : Conf) (history : History) (event : Event) (outcome : Outcome) → outcome ≡ outcome_at conf history event
+    → moves_by outcome ≡ along (moves_in conf) history (Take event ∷ [])
+moves_one conf history event outcome leads = ap moves_by leads ∙ sym (append-nil (moves_by (outcome_at conf history event)))
+
+lost_one : (tried : List Tried) (before now : ℕ) → FailsTimes (failed_sends tried) before now → FailsTimes (0 + failed_sends tried) before now
+lost_one tried before now fails =
+    let same : failed_sends tried ≡ 0 + failed_sends tried = omega arith in
+    subst (λ (n : ℕ). FailsTimes n before now) same fails
+
+-- The record was written, the member stepped, and what the outcome says was done; the line was written, or a front of it.
+pub takes_all : (conf : Conf) (history : History) (event : Event) (outcome : Outcome) (member : Member)
+    (link link' : Option LinkTold) (clock clock' : Option ClockTold) (words capture capture' out out' : Option (List ℕ))
+    (lf lf' cf ef df kf kf' of of' : ℕ) (end mid new : LifeEnd) (why : Why)
+    → conf_of member ≡ conf → StandsForHistory member (event ∷ history) → EventFits event → outcome ≡ outcome_at conf history event
+    → WrittenBy Done (event_bytes event) capture capture' kf kf'
+    → mid ≡ counted event outcome end → Acts outcome link link' clock clock' lf lf' mid new
+    → WrittenBy why (line_of outcome) out out' of of'
+    → Takes conf history event nothing (seen link clock words capture out lf (faults cf ef df kf of)) (seen link' clock' words capture' out' lf' (faults cf ef df kf' of')) member end new why
+takes_all conf history event outcome member link link' clock clock' words capture capture' out out' lf lf' cf ef df kf kf' of of' end mid new Done
+    is_set stands fits leads (added, none) was acts (line, none') = record {
+      tried = acts.tried;
+      deeds = Take event ∷ [];
+      ending = Whole;
+      events = refl;
+      taken = event ∷ [];
+      takes = refl;
+      does = record {
+        link = tried_sends link link' acts.tried acts.sends;
+        requests = requests_one conf history event outcome acts.tried leads acts.requests;
+        clock = made_moves clock clock' (along (moves_in conf) history (Take event ∷ [])) (rw (← moves_one conf history event outcome leads) acts.moves);
+        words = added_none words;
+        fit = (fits, tt);
+        capture = subst (λ (l : List ℕ). Added capture capture' l) (sym (append-nil (event_bytes event))) added;
+        out = subst (λ (l : List ℕ). Added out out' l) (ap line_of leads ∙ sym (append-nil (line_of (outcome_at conf history event)))) line;
+        link_failed = lost_one acts.tried lf lf' acts.link_failed;
+      };
+      is_set = is_set;
+      stands = stands;
+      tallies = tallies_one conf history event outcome acts.tried end mid new leads was acts.counted;
+      ends = (tt, λ i. faults cf ef df (none i) (none' i));
+    }
+takes_all conf history event outcome member link link' clock clock' words capture capture' out out' lf lf' cf ef df kf kf' of of' end mid new SinkFault
+    is_set stands fits leads (added, none) was acts (front, line, fails) = record {
+      tried = acts.tried;
+      deeds = [];
+      ending = NoLine (Take event) front;
+      events = refl;
+      taken = event ∷ [];
+      takes = refl;
+      does = record {
+        link = tried_sends link link' acts.tried acts.sends;
+        requests = requests_one conf history event outcome acts.tried leads acts.requests;
+        clock = made_moves clock clock' (along (moves_in conf) history (Take event ∷ [])) (rw (← moves_one conf history event outcome leads) acts.moves);
+        words = added_none words;
+        fit = (fits, tt);
+        capture = subst (λ (l : List ℕ). Added capture capture' l) (sym (append-nil (event_bytes event))) added;
+        out = subst (λ (o : Outcome). Added out out' (take front (line_of o))) leads line;
+        link_failed = lost_one acts.tried lf lf' acts.link_failed;
+      };
+      is_set = is_set;
+      stands = stands;
+      tallies = tallies_one conf history event outcome acts.tried end mid new leads was acts.counted;
+      ends = (fails, λ i. faults cf ef df (none i) of');
+    }
+takes_all conf history event outcome member link link' clock clock' words capture capture' out out' lf lf' cf ef df kf kf' of of' end mid new DiskFault
+    is_set stands fits leads written was acts line = absurd line
+takes_all conf history event outcome member link link' clock clock' words capture capture' out out' lf lf' cf ef df kf kf' of of' end mid new BadVersion
+    is_set stands fits leads written was acts line = absurd line
+takes_all conf history event outcome member link link' clock clock' words capture capture' out out' lf lf' cf ef df kf kf' of of' end mid new StampsSpent
+    is_set stands fits leads written was acts line = absurd line
+takes_all conf history event outcome member link link' clock clock' words capture capture' out out' lf lf' cf ef df kf kf' of of' end mid new ClockFault
+    is_set stands fits leads written was acts line = absurd line
+takes_all conf history event outcome member link link' clock clock' words capture capture' out out' lf lf' cf ef df kf kf' of of' end mid new EntropyFault
+    is_set stands fits leads written was acts line = absurd line

@@ -1,0 +1,70 @@
+use Rattle.std.proofs.Common.{◌≡◌, Err, ap}
+use Rattle.run_deeds.specs.declared.life_end.Why.TheVariants.{BadVersion, DiskFault}
+use Rattle.run_deeds.specs.Weaving.{Call, Turns}
+use Rattle.member_run.proofs.Living.{lives_closed, lives_never, lives_stopped}
+use Rattle.member_run.proofs.Causes.{none_blamed, none_fell}
+use Rattle.member_run.proofs.life.live.Goals as goal
+use Rattle.member_run.proofs.life.live.Goals.{in-Ok-turned, in-Err-turned}
+
+pub returns-in-Err-clause-lives : goal.returns-in-Err-clause-lives
+returns-in-Err-clause-lives g c =
+    let e = c.in-Err.ensures in
+    rw c.nothing.ensures
+    (lives_never c.args.conf c.args.turns (g.D.Disk.told c.args.disk.now) (g.D.Disk.told c.start.new.disk) _ _ c.in-Err.why e.never
+    (e.begins Call (g.L.Link.told c.args.link.now) (g.E.Entropy.words c.args.entropy.now) (g.L.Link.faults c.args.link.now) (g.E.Entropy.faults c.args.entropy.now))
+    (λ is. e.version (ap Err is)) (λ is. e.refused (ap Err is))
+    (λ version fault. e.loadable (λ is. version (let same : c.in-Err.why ≡ BadVersion = cc in same)) (λ is. fault (let same : c.in-Err.why ≡ DiskFault = cc in same)))
+    e.calls e.least e.still_loads e.most
+    (λ version fault. e.loaded (λ is. version (let same : c.in-Err.why ≡ BadVersion = cc in same)) (λ is. fault (let same : c.in-Err.why ≡ DiskFault = cc in same))))
+
+pub returns-in-Err-clause-complete : goal.returns-in-Err-clause-complete
+returns-in-Err-clause-complete g c = let l = returns-in-Err-clause-lives g c in none_blamed _ l.ending l.need _ _ l.ends
+
+pub returns-in-Err-clause-clock_count : goal.returns-in-Err-clause-clock_count
+returns-in-Err-clause-clock_count g c = let l = returns-in-Err-clause-lives g c in (none_fell _ l.ending l.need _ _ l.ends).clock
+
+pub returns-in-Err-clause-disk_count : goal.returns-in-Err-clause-disk_count
+returns-in-Err-clause-disk_count g c = let l = returns-in-Err-clause-lives g c in (none_fell _ l.ending l.need _ _ l.ends).disk
+
+pub returns-in-Err-clause-out_count : goal.returns-in-Err-clause-out_count
+returns-in-Err-clause-out_count g c = let l = returns-in-Err-clause-lives g c in (none_fell _ l.ending l.need _ _ l.ends).out
+
+pub returns-in-Err-clause-capture_count : goal.returns-in-Err-clause-capture_count
+returns-in-Err-clause-capture_count g c = let l = returns-in-Err-clause-lives g c in (none_fell _ l.ending l.need _ _ l.ends).capture
+
+pub returns-clause-lives : goal.returns-clause-lives
+returns-clause-lives g c =
+    let e = c.in-Ok.ensures in
+    let entry = g.D.Disk.told c.args.disk.now in
+    let mid = g.D.Disk.told c.start.new.disk in
+    let exit = g.D.Disk.told c.take_turns-turned.new.disk in
+    let running = c.in-Ok.running in
+    let after = c.take_turns-turned.new.self in
+    let begun = e.begins (Turns c.args.turns) (g.L.Link.told c.args.link.now) (g.E.Entropy.words c.args.entropy.now) (g.L.Link.faults c.args.link.now) (g.E.Entropy.faults c.args.entropy.now) in
+    let loads = e.loadable (λ is. let bad : ⊥ = cc in bad) (λ is. let bad : ⊥ = cc in bad) in
+    rw c.end_of.ensures
+    (elim c.match-turned.branch [
+      | in-Ok-turned w ↦
+          rw (w.ended-is, w.out-is)
+          (lives_closed c.args.conf c.args.turns entry mid exit _ _ _ _ _ _ _ _ _ _ _ _ _ _ _ running after _ begun e.going w.in-Ok-turned.ensures.turns
+          loads e.calls e.least w.in-Ok-turned.ensures.least e.still_loads w.in-Ok-turned.ensures.still_loads w.in-Ok-turned.ensures.covers w.in-Ok-turned.ensures.going w.close-ended.ensures)
+      | in-Err-turned w ↦
+          rw (w.ended-is, w.out-is)
+          (lives_stopped c.args.conf c.args.turns entry mid exit _ _ _ running after w.in-Err-turned.why (λ is. w.in-Err-turned.ensures.never.0 (ap Err is)) begun e.going w.in-Err-turned.ensures.turns
+          loads e.calls e.least w.in-Err-turned.ensures.least e.still_loads w.in-Err-turned.ensures.still_loads w.in-Err-turned.ensures.covers)
+    ])
+
+pub returns-clause-complete : goal.returns-clause-complete
+returns-clause-complete g c = let l = returns-clause-lives g c in none_blamed _ l.ending l.need _ _ l.ends
+
+pub returns-clause-clock_count : goal.returns-clause-clock_count
+returns-clause-clock_count g c = let l = returns-clause-lives g c in (none_fell _ l.ending l.need _ _ l.ends).clock
+
+pub returns-clause-disk_count : goal.returns-clause-disk_count
+returns-clause-disk_count g c = let l = returns-clause-lives g c in (none_fell _ l.ending l.need _ _ l.ends).disk
+
+pub returns-clause-out_count : goal.returns-clause-out_count
+returns-clause-out_count g c = let l = returns-clause-lives g c in (none_fell _ l.ending l.need _ _ l.ends).out
+
+pub returns-clause-capture_count : goal.returns-clause-capture_count
+returns-clause-capture_count g c = let l = returns-clause-lives g c in (none_fell _ l.ending l.need _ _ l.ends).capture

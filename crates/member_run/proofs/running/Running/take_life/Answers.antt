@@ -1,0 +1,32 @@
+use Rattle.std.proofs.Common.{◌≡◌, refl}
+use Rattle.std.proofs.lemmas.Result.{err_from_is_err_and}
+use Rattle.run_deeds.specs.declared.life_end.Why.TheVariants.{SinkFault}
+use Rattle.member_run.proofs.Beginning.{life_last, life_totals, on_ok_always, takes_life}
+use Rattle.member_run.proofs.Takings.{no_record}
+use Rattle.member_run.proofs.running.Running.take_life.Goals as goal
+
+pub returns-in_err-outcome-clause-takes : goal.returns-in_err-outcome-clause-takes
+returns-in_err-outcome-clause-takes g c =
+    let p = err_from_is_err_and c.from_residual.result c.from_residual.ensures.1 in
+    let fault : c.in_err-outcome.field-0.0 ≡ SinkFault = cc c.in_err-outcome.ensures.why in
+    let wrote = rw fault at c.in_err-outcome.ensures.record_bytes in
+    rw (p.1, p.2, fault, c.in_err-outcome.ensures.err)
+    (λ link clock words link_faults clock_faults entropy disk history stands.
+    no_record _ history c.args.event.now c.args.self.now.member link clock words _ _ _ link_faults clock_faults entropy disk _ _ _ c.args.self.now.totals refl stands c.requires.fits wrote)
+
+pub returns-clause-takes : goal.returns-clause-takes
+returns-clause-takes g c = λ link clock words link_faults clock_faults entropy disk history stands.
+    let step = c.in_ok-outcome.ensures.steps history stands in
+    takes_life _ history c.args.event.now c.in_ok-outcome.outcome c.step.new.self.member link clock words _ _ _ _ link_faults clock_faults entropy disk _ _ _ _ _ _ _
+    c.requires.life c.in_ok-outcome.ensures.conf step.1 c.requires.fits step.0 c.in_ok-outcome.ensures.record_bytes c.in_ok-outcome.ensures.totals c.write_line.ensures.bytes
+
+pub returns-clause-last : goal.returns-clause-last
+returns-clause-last g c =
+    on_ok_always c.write_line.result
+    (λ history stands.
+    life_last _ history c.args.event.now c.in_ok-outcome.outcome _ _ c.requires.life (c.in_ok-outcome.ensures.steps history stands).0 c.in_ok-outcome.ensures.last)
+
+pub returns-clause-totals : goal.returns-clause-totals
+returns-clause-totals g c = λ history stands.
+    life_totals _ history c.args.event.now c.in_ok-outcome.outcome c.args.self.now.totals c.step.new.self.totals c.requires.life
+    (c.in_ok-outcome.ensures.steps history stands).0 c.in_ok-outcome.ensures.totals

@@ -1,0 +1,108 @@
+use Rattle.std.proofs.Common.{suc, refl, ap, arith, rules, w64}
+use Rattle.std.proofs.lemmas.Int.{to_z-of_z}
+use Rattle.std.proofs.lemmas.Result.{err_from_is_err_and}
+use Rattle.capture_fmt.specs.declared.event.Event.TheVariants.{Tick}
+use Rattle.stamp_keep.specs.Keep.{mark_of}
+use Rattle.sntp_core.specs.Standing.{conf_of, words_of}
+use Rattle.run_deeds.specs.Weaving.{ReceiptNow, Turns, WordFor, draws, none, reads}
+use Rattle.member_run.specs.Running.{member_of, totals_of}
+use Rattle.member_run.proofs.Counts.{asks_follow}
+use Rattle.member_run.proofs.Following.{covers_cut, covers_going, covers_still, cut_keeper, going_on}
+use Rattle.member_run.proofs.Requesting.{asks_reserved, no_count, no_reading, no_word, takes_drawn}
+use Rattle.member_run.proofs.running.Running.tick.Goals as goal
+
+pub take-requires-clause-admitted : goal.take-requires-clause-admitted
+take-requires-clause-admitted g c =
+    let going = c.in_ok-ensure_count.ensures.going in
+    let member = c.ensure_count.new.self.member in
+    asks_follow (conf_of member) (words_of member) (Tick c.in_ok-now.now c.in_ok-word.word) _ _ refl going.begun.begun going.begun.last c.in_ok-ensure_count.ensures.room c.in_ok-ensure_count.ensures.below
+
+pub returns-in_err-ensure_count-clause-part : goal.returns-in_err-ensure_count-clause-part
+returns-in_err-ensure_count-clause-part g c =
+    let p = err_from_is_err_and c.from_residual.result c.from_residual.ensures.1 in
+    let e = c.in_err-ensure_count.ensures in
+    rw (p.1, p.2, e.err)
+    (λ left history stands.
+    no_count _ (Turns (suc left)) (ReceiptNow left) history c.args.self.now.member _ _ _ _ _ _ _ _ _ _ _ _ _ _ _ _ refl stands (omega arith) (omega arith) e.cause (λ is. e.never_version (cc is)))
+
+pub returns-in_err-now-clause-part : goal.returns-in_err-now-clause-part
+returns-in_err-now-clause-part g c =
+    let p = err_from_is_err_and c.from_residual-in_err-now.result c.from_residual-in_err-now.ensures.1 in
+    let member = ap member_of c.ensure_count.ensures.same in
+    let totals = ap totals_of c.ensure_count.ensures.same in
+    let gives = c.in_err-now.ensures.gives in
+    rw (p.1, p.2, member, totals)
+    (λ left history stands.
+    no_reading _ (Turns (suc left)) (ReceiptNow left) history c.args.self.now.member _ _ _ _ _ _ _ _ _ _ _ _ _ _ _ _ _ _ refl stands (omega arith) gives.0 gives.1 gives.2 c.in_ok-ensure_count.ensures.cause)
+
+pub returns-in_err-word-clause-part : goal.returns-in_err-word-clause-part
+returns-in_err-word-clause-part g c =
+    let p = err_from_is_err_and c.from_residual-in_err-word.result c.from_residual-in_err-word.ensures.1 in
+    let member = ap member_of c.ensure_count.ensures.same in
+    let totals = ap totals_of c.ensure_count.ensures.same in
+    let read = c.in_ok-now.ensures.gives in
+    let drew = c.in_err-word.ensures.gives in
+    rw (p.1, p.2, member, totals)
+    (λ left history stands.
+    no_word _ (Turns (suc left)) (WordFor left c.in_ok-now.now) (ReceiptNow left) history c.args.self.now.member _ _ _ _ _ _ _ _ _ _ _ _ _ _ _ _ _ _ _ _ c.in_ok-now.now refl stands tt (reads none)
+    drew.0 read.0 read.1 drew.1 drew.2 c.in_ok-ensure_count.ensures.cause)
+
+pub returns-in_err-take-clause-part : goal.returns-in_err-take-clause-part
+returns-in_err-take-clause-part g c =
+    let p = err_from_is_err_and c.from_residual-in_err-take.result c.from_residual-in_err-take.ensures.1 in
+    let member = ap member_of c.ensure_count.ensures.same in
+    let totals = ap totals_of c.ensure_count.ensures.same in
+    let time = to_z-of_z w64 c.in_ok-now.now (search rules) in
+    let read = c.in_ok-now.ensures.gives in
+    let drew = c.in_ok-word.ensures.gives in
+    let kept = cut_keeper _ _ _ c.in_err-take.ensures.cut in
+    rw (p.1, p.2, kept)
+    (λ left history stands.
+    let takes = rw (time, member, totals) at c.in_err-take.ensures.takes (g.E.Entropy.words c.draw.new.entropy) (g.E.Entropy.faults c.draw.new.entropy) (g.D.Disk.faults c.ensure_count.new.disk) history stands in
+    takes_drawn _ (Turns (suc left)) (ReceiptNow left) history (Tick c.in_ok-now.now c.in_ok-word.word) c.take.new.self.member _ _ _ _ _ _ _ _ _ _ _ _ _ _ _ _ _ _ _ _ _ _ c.in_ok-now.now c.in_ok-word.word
+    read.0 read.1 drew.1 drew.2 c.in_ok-ensure_count.ensures.cause takes (reads (draws none)) tt
+    (asks_reserved c.args.self.now.member history (Tick c.in_ok-now.now c.in_ok-word.word) _ _ _ refl stands c.requires.going.begun.last c.in_ok-ensure_count.ensures.reserves))
+
+pub returns-clause-part : goal.returns-clause-part
+returns-clause-part g c =
+    let member = ap member_of c.ensure_count.ensures.same in
+    let totals = ap totals_of c.ensure_count.ensures.same in
+    let time = to_z-of_z w64 c.in_ok-now.now (search rules) in
+    let read = c.in_ok-now.ensures.gives in
+    let drew = c.in_ok-word.ensures.gives in
+    let kept = ap mark_of c.in_ok-take.ensures.taken.keeper in
+    rw kept
+    (λ left history stands.
+    let takes = rw (time, member, totals) at c.in_ok-take.ensures.takes (g.E.Entropy.words c.draw.new.entropy) (g.E.Entropy.faults c.draw.new.entropy) (g.D.Disk.faults c.ensure_count.new.disk) history stands in
+    takes_drawn _ (Turns (suc left)) (ReceiptNow left) history (Tick c.in_ok-now.now c.in_ok-word.word) c.take.new.self.member _ _ _ _ _ _ _ _ _ _ _ _ _ _ _ _ _ _ _ _ _ _ c.in_ok-now.now c.in_ok-word.word
+    read.0 read.1 drew.1 drew.2 c.in_ok-ensure_count.ensures.cause takes (reads (draws none)) tt
+    (asks_reserved c.args.self.now.member history (Tick c.in_ok-now.now c.in_ok-word.word) _ _ _ refl stands c.requires.going.begun.last c.in_ok-ensure_count.ensures.reserves))
+
+pub returns-clause-going : goal.returns-clause-going
+returns-clause-going g c =
+    let time = to_z-of_z w64 c.in_ok-now.now (search rules) in
+    let taken = rw time at c.in_ok-take.ensures.taken in
+    going_on _ c.ensure_count.new.self c.take.new.self (Tick c.in_ok-now.now c.in_ok-word.word) _ refl c.in_ok-ensure_count.ensures.going c.in_ok-ensure_count.ensures.room taken
+
+pub returns-in_err-ensure_count-clause-covers : goal.returns-in_err-ensure_count-clause-covers
+returns-in_err-ensure_count-clause-covers g c =
+    rw c.in_err-ensure_count.ensures.err (covers_still _ _ c.args.self.now c.requires.going c.ensure_count.ensures.least)
+
+pub returns-in_err-now-clause-covers : goal.returns-in_err-now-clause-covers
+returns-in_err-now-clause-covers g c = covers_going _ c.ensure_count.new.self c.in_ok-ensure_count.ensures.going
+
+pub returns-in_err-word-clause-covers : goal.returns-in_err-word-clause-covers
+returns-in_err-word-clause-covers g c = covers_going _ c.ensure_count.new.self c.in_ok-ensure_count.ensures.going
+
+pub returns-in_err-take-clause-covers : goal.returns-in_err-take-clause-covers
+returns-in_err-take-clause-covers g c =
+    let time = to_z-of_z w64 c.in_ok-now.now (search rules) in
+    let cut = rw time at c.in_err-take.ensures.cut in
+    covers_cut _ c.ensure_count.new.self c.take.new.self (Tick c.in_ok-now.now c.in_ok-word.word) refl c.in_ok-ensure_count.ensures.going c.in_ok-ensure_count.ensures.room cut
+
+pub returns-clause-covers : goal.returns-clause-covers
+returns-clause-covers g c =
+    let time = to_z-of_z w64 c.in_ok-now.now (search rules) in
+    let taken = rw time at c.in_ok-take.ensures.taken in
+    covers_going _ c.take.new.self
+    (going_on _ c.ensure_count.new.self c.take.new.self (Tick c.in_ok-now.now c.in_ok-word.word) _ refl c.in_ok-ensure_count.ensures.going c.in_ok-ensure_count.ensures.room taken)

@@ -1,0 +1,7 @@
+pub mod Asking
+pub mod Closing
+pub mod Reserving
+pub mod Running
+pub mod Starting
+pub mod Taking
+pub mod Turning

@@ -1,0 +1,203 @@
+//! Requests that were asked for, and their rounds.
+ghost use Rattle.std.specs.Prelude.{◌≡◌};
+ghost use Rattle.run_deeds.specs.Rounds.{is_moved, is_too_big};
+
+use crate::Running;
+use crate::devices::{draw, read};
+use capture_fmt::Event;
+use edge_traits::{Clock, Entropy, Link, Receipt, Sink};
+use run_deeds::Why;
+use slot_disk::Disk;
+use sntp_core::{Outcome, Reason};
+
+/// How many receipts a round takes at most.
+const ROUND: u32 = 16;
+
+/// The flag of a call that asks for the result of its round.
+const WITH_RESULT: u32 = 2;
+
+/// The results of a call: the clock was corrected or nothing was asked for, no time was available, and the correction
+/// would have been too big.
+const DONE: u32 = 0;
+
+const NO_DATA: u32 = 1;
+
+const TOO_BIG: u32 = 3;
+
+impl Running {
+    ghost use Rattle.std.specs.Prelude.{◌↔◌, ◌<◌, ℕ, List, Option, IfErr, IsErrOf, OnOk};
+    ghost use Rattle.stamp_keep.specs.Keep.{KeepsMarks};
+    ghost use Rattle.time_machine.specs.Events.{History};
+    ghost use Rattle.sntp_core.specs.Standing.{StandsForHistory, conf_of};
+    ghost use Rattle.run_deeds.specs.declared.life_end.Why.{Why};
+    ghost use Rattle.run_deeds.specs.Devices.{faults, seen};
+    ghost use Rattle.run_deeds.specs.Marks.{Covers, KeepsLoadable};
+    ghost use Rattle.run_deeds.specs.Parts.{why_of};
+    ghost use Rattle.run_deeds.specs.Rounds.{Answers, RoundAnswers};
+    ghost use Rattle.run_deeds.specs.Weaving.{CallReading, behind_request};
+    ghost use Rattle.member_run.specs.Running.{CallsWhereDue, IsBegun, IsGoing, IsOfReceipt};
+    ghost use Rattle.member_run.specs.Running.{IsPart, IsUsedUp, RisesWhereDue, SendsNone};
+    ghost use Rattle.member_run.specs.Running.{greatest_of, kept_of, member_of, totals_of};
+
+    /// A request that was asked for, with these flags. Where `wait` is not 0, a round of at most 16 receipts follows,
+    /// which an accepted arrival or a quiet receipt ends. The result is 0 where `wait` is 0 or the flags lack 2, and
+    /// where a reply was accepted. Else it is 3 where one was refused as too big, and 1 in all other cases. The error is
+    /// never `Done` or `BadVersion`.
+    pub fn resync<L: Link, C: Clock, D: Disk, E: Entropy, O: Sink>(
+        &mut self,
+        wait: u32,
+        flags: u32,
+        link: &mut L,
+        clock: &mut C,
+        disk: &mut D,
+        entropy: &mut E,
+        out: &mut O,
+        capture: &mut O,
+    ) -> Result<u32, Why>
+        requires going { IsGoing (D.told disk.old) self.old }
+        ensures answers { (history : History) → StandsForHistory (member_of self.old) history
+            → Answers (conf_of (member_of self.old)) wait flags history
+            (seen (L.told link.old) (C.told clock.old) (E.words entropy.old) (O.written capture.old)
+            (O.written out.old) (L.faults link.old)
+            (faults (C.faults clock.old) (E.faults entropy.old) (D.faults disk.old)
+            (O.faults capture.old) (O.faults out.old)))
+            (seen (L.told link.new) (C.told clock.new) (E.words entropy.new) (O.written capture.new)
+            (O.written out.new) (L.faults link.new)
+            (faults (C.faults clock.new) (E.faults entropy.new) (D.faults disk.new)
+            (O.faults capture.new) (O.faults out.new)))
+            (member_of self.new) (kept_of self.old) (kept_of self.new)
+            (totals_of self.old) (totals_of self.new) result }
+        ensures going { OnOk result (IsGoing (D.told disk.new) self.new) }
+        ensures disk { IsErrOf result Why.DiskFault → IsUsedUp self.old }
+        ensures spent { IsErrOf result Why.StampsSpent
+            ↔ (IsUsedUp self.old × (4294967231 < kept_of self.old)) }
+        ensures spent_still { IsErrOf result Why.StampsSpent
+            → (D.told disk.new).time ≡ (D.told disk.old).time }
+        ensures calls { CallsWhereDue self.old (D.told disk.old) (D.told disk.new) }
+        ensures least { KeepsMarks (D.told disk.old) (D.told disk.new) }
+        ensures most { RisesWhereDue self.old (D.told disk.new) }
+        ensures still_loads { KeepsLoadable (D.told disk.old) (D.told disk.new) }
+        ensures covers { Covers (D.told disk.new) (greatest_of self.new) }
+        ensures never { (IsErrOf result Why.Done → ⊥) × (IsErrOf result Why.BadVersion → ⊥) }
+    {
+        self.request(flags, link, clock, disk, entropy, out, capture)?;
+        if wait == 0 {
+            return Ok(DONE);
+        }
+        let result = self.round(link, clock, out, capture)?;
+        Ok(if flags & WITH_RESULT == 0 {
+            DONE
+        } else {
+            result
+        })
+    }
+
+    /// A reading and a word make a Resync, which is taken.
+    fn request<L: Link, C: Clock, D: Disk, E: Entropy, O: Sink>(
+        &mut self,
+        flags: u32,
+        link: &mut L,
+        clock: &mut C,
+        disk: &mut D,
+        entropy: &mut E,
+        out: &mut O,
+        capture: &mut O,
+    ) -> Result<(), Why>
+        requires going { IsGoing (D.told disk.old) self.old }
+        ensures part { (wait : ℕ)
+            → IsPart self.old self.new (CallReading wait flags) (behind_request wait)
+            (seen (L.told link.old) (C.told clock.old) (E.words entropy.old) (O.written capture.old)
+            (O.written out.old) (L.faults link.old)
+            (faults (C.faults clock.old) (E.faults entropy.old) (D.faults disk.old)
+            (O.faults capture.old) (O.faults out.old)))
+            (seen (L.told link.new) (C.told clock.new) (E.words entropy.new) (O.written capture.new)
+            (O.written out.new) (L.faults link.new)
+            (faults (C.faults clock.new) (E.faults entropy.new) (D.faults disk.new)
+            (O.faults capture.new) (O.faults out.new)))
+            (why_of result) }
+        ensures going { OnOk result (IsGoing (D.told disk.new) self.new) }
+        ensures disk { IsErrOf result Why.DiskFault → IsUsedUp self.old }
+        ensures spent { IsErrOf result Why.StampsSpent
+            ↔ (IsUsedUp self.old × (4294967231 < kept_of self.old)) }
+        ensures spent_still { IsErrOf result Why.StampsSpent
+            → (D.told disk.new).time ≡ (D.told disk.old).time }
+        ensures calls { CallsWhereDue self.old (D.told disk.old) (D.told disk.new) }
+        ensures least { KeepsMarks (D.told disk.old) (D.told disk.new) }
+        ensures most { RisesWhereDue self.old (D.told disk.new) }
+        ensures still_loads { KeepsLoadable (D.told disk.old) (D.told disk.new) }
+        ensures covers { Covers (D.told disk.new) (greatest_of self.new) }
+        ensures never { (IsErrOf result Why.Done → ⊥) × (IsErrOf result Why.BadVersion → ⊥) }
+    {
+        self.ensure_count(disk)?;
+        let now = read(clock)?;
+        let word = draw(entropy)?;
+        self.take(
+            &Event::Resync { now, word, flags },
+            link,
+            clock,
+            out,
+            capture,
+        )?;
+        Ok(())
+    }
+
+    /// The round of a call, and its result.
+    fn round<L: Link, C: Clock, O: Sink>(
+        &mut self,
+        link: &mut L,
+        clock: &mut C,
+        out: &mut O,
+        capture: &mut O,
+    ) -> Result<u32, Why>
+        requires begun { IsBegun self.old }
+        ensures round { (words : Option (List ℕ)) (entropy disk : ℕ) (history : History)
+            → StandsForHistory (member_of self.old) history
+            → RoundAnswers (conf_of (member_of self.old)) history
+            (seen (L.told link.old) (C.told clock.old) words (O.written capture.old)
+            (O.written out.old) (L.faults link.old)
+            (faults (C.faults clock.old) entropy disk (O.faults capture.old) (O.faults out.old)))
+            (seen (L.told link.new) (C.told clock.new) words (O.written capture.new)
+            (O.written out.new) (L.faults link.new)
+            (faults (C.faults clock.new) entropy disk (O.faults capture.new) (O.faults out.new)))
+            (member_of self.new) (kept_of self.old) (totals_of self.old)
+            (totals_of self.new) result }
+        ensures begun { OnOk result (IsBegun self.new) }
+        ensures sends_none { SendsNone self.old self.new }
+        ensures never { IfErr result IsOfReceipt }
+    {
+        let mut result = NO_DATA;
+        for _ in 0..ROUND {
+            match link.recv() {
+                Receipt::Got(from, bytes) => {
+                    let outcome = self.arrive(from, bytes, link, clock, out, capture)?;
+                    if is_moved(&outcome) {
+                        return Ok(DONE);
+                    }
+                    if is_too_big(&outcome) {
+                        result = TOO_BIG;
+                    }
+                }
+                Receipt::Quiet => {
+                    self.totals.count_quiet();
+                    return Ok(result);
+                }
+                Receipt::Failed => self.totals.count_lost(),
+            }
+        }
+        Ok(result)
+    }
+}
+
+/// A reply was accepted.
+fn is_moved(outcome: &Outcome) -> bool
+    ensures { result ≡ is_moved outcome.now }
+{
+    matches!(outcome, Outcome::Moved { .. })
+}
+
+/// A reply was refused for its offset alone.
+fn is_too_big(outcome: &Outcome) -> bool
+    ensures { result ≡ is_too_big outcome.now }
+{
+    matches!(outcome, Outcome::Refused(Reason::TooBig))
+}

@@ -1,0 +1,296 @@
+//! A run between two calls.
+use crate::closing::write_closing_lines;
+use crate::devices::{draw, read};
+use crate::reserving::load;
+use capture_fmt::Event;
+use edge_traits::{Addr, Clock, Datagram, Entropy, Link, Receipt, Sink};
+use run_deeds::{LifeEnd, Why};
+use slot_disk::Disk;
+use sntp_core::{Conf, Member, Outcome};
+use stamp_keep::Keeper;
+
+/// A run of a member between two calls. After a call that answered an error no other may follow.
+#[derive(Drop)]
+pub struct Running {
+    pub(crate) member: Member,
+    pub(crate) keeper: Keeper,
+    /// The count of the last request of this life, or its mark where there was none.
+    pub(crate) last: u32,
+    pub(crate) totals: LifeEnd,
+}
+
+impl Running {
+    ghost use Rattle.std.specs.Prelude.{◌≡◌, ◌↔◌, ◌+◌, ◌<◌, ◌≤◌, suc, ℕ, List, Option, IfOk, IfErr};
+    ghost use Rattle.std.specs.Prelude.{IfSome, IsErrOf, OnOk};
+    ghost use Rattle.edge_traits.specs.Link.{LinkTold, ReceiptFits};
+    ghost use Rattle.edge_traits.specs.declared.link.Receipt.{Receipt};
+    ghost use Rattle.capture_fmt.specs.declared.event.Event.{Event};
+    ghost use Rattle.stamp_keep.specs.Keep.{IsLeft, IsLoadable, KeepsMarks};
+    ghost use Rattle.stamp_keep.specs.Slots.{HasOtherVersion};
+    ghost use Rattle.time_machine.specs.Events.{History};
+    ghost use Rattle.time_machine.specs.Machine.{source_of};
+    ghost use Rattle.sntp_core.specs.Standing.{StandsForHistory, conf_of};
+    ghost use Rattle.run_deeds.specs.declared.life_end.Why.{Why};
+    ghost use Rattle.run_deeds.specs.Counting.{ended};
+    ghost use Rattle.run_deeds.specs.Devices.{faults, seen};
+    ghost use Rattle.run_deeds.specs.Marks.{AddsNoMark, Covers, KeepsLoadable};
+    ghost use Rattle.run_deeds.specs.Parts.{why_of};
+    ghost use Rattle.run_deeds.specs.Weaving.{Need, Turns, ReceiptNow};
+    ghost use Rattle.member_run.specs.Running.{CallsWhereDue, IsBegun, IsGoing, IsOfReceipt};
+    ghost use Rattle.member_run.specs.Running.{IsPart, IsUsedUp, RisesWhereDue, SendsNone};
+    ghost use Rattle.member_run.specs.Running.{greatest_of, kept_of, member_of, totals_of};
+    ghost use Rattle.member_run.specs.Closing.{Closes};
+    ghost use Rattle.member_run.specs.Reserving.{IsLoadedFrom};
+    ghost use Rattle.member_run.specs.Taking.{TakesAt, TakesTo};
+    ghost use Rattle.member_run.specs.Starting.{Begins, IsOfStart};
+
+    /// The first part of a run: the keeper is loaded, the clock is read, and the Life is taken, whose mark is what the
+    /// disk stands for. The error is never `Done`, `EntropyFault` or `StampsSpent`.
+    pub fn start<C: Clock, D: Disk, O: Sink>(
+        conf: Conf,
+        clock: &mut C,
+        disk: &mut D,
+        out: &mut O,
+        capture: &mut O,
+    ) -> Result<Running, Why>
+        // Whatever the run needs behind its Life, and whatever the devices tell that are not asked.
+        ensures begins { (next : Need) (link : Option LinkTold)
+            (words : Option (List ℕ)) (link_faults entropy : ℕ)
+            → Begins conf next (D.told disk.old)
+            (seen link (C.told clock.old) words (O.written capture.old)
+            (O.written out.old) link_faults
+            (faults (C.faults clock.old) entropy (D.faults disk.old)
+            (O.faults capture.old) (O.faults out.old)))
+            (seen link (C.told clock.new) words (O.written capture.new)
+            (O.written out.new) link_faults
+            (faults (C.faults clock.new) entropy (D.faults disk.new)
+            (O.faults capture.new) (O.faults out.new)))
+            result }
+        ensures going { IfOk result (IsGoing (D.told disk.new)) }
+
+        // A disk of another version is refused exactly where it is one, and is left as it was.
+        ensures version { IsErrOf result Why.BadVersion
+            → IfSome (D.told disk.old).content HasOtherVersion }
+        ensures refused { IsErrOf result Why.BadVersion
+            → IsLeft (D.told disk.old) (D.told disk.new) }
+        ensures loadable { (IsErrOf result Why.BadVersion → ⊥) → (IsErrOf result Why.DiskFault → ⊥)
+            → IfSome (D.told disk.old).content IsLoadable }
+        ensures loaded { (IsErrOf result Why.BadVersion → ⊥) → (IsErrOf result Why.DiskFault → ⊥)
+            → IsLoadedFrom (D.told disk.old) (D.told disk.new) }
+
+        // Whatever it answers, no image stands for less than one at entry, nor for a mark that none stood for there, and a
+        // load refuses none that it took at entry.
+        ensures least { KeepsMarks (D.told disk.old) (D.told disk.new) }
+        ensures most { AddsNoMark (D.told disk.old) (D.told disk.new) }
+        ensures still_loads { KeepsLoadable (D.told disk.old) (D.told disk.new) }
+        ensures calls { (D.told disk.new).time ≤ (D.told disk.old).time + 4 }
+        ensures never { IfErr result IsOfStart }
+    {
+        let keeper = load(disk)?;
+        let mut running = Running {
+            member: Member::new(conf),
+            keeper,
+            last: 0,
+            totals: LifeEnd::nothing(Why::Done),
+        };
+        let now = read(clock)?;
+        let mark = running.keeper.mark();
+        running.take_life(&Event::Life { now, mark }, out, capture)?;
+        Ok(running)
+    }
+
+    /// One turn: a block of counts is reserved where none is left, a reading and a word make a Tick, which is taken, and
+    /// one receipt is taken. A datagram with the next reading makes an Arrive, which is taken. The error is never `Done`
+    /// or `BadVersion`.
+    pub fn turn<L: Link, C: Clock, D: Disk, E: Entropy, O: Sink>(
+        &mut self,
+        link: &mut L,
+        clock: &mut C,
+        disk: &mut D,
+        entropy: &mut E,
+        out: &mut O,
+        capture: &mut O,
+    ) -> Result<(), Why>
+        requires going { IsGoing (D.told disk.old) self.old }
+        ensures part { (left : ℕ) → IsPart self.old self.new (Turns (suc left)) (Turns left)
+            (seen (L.told link.old) (C.told clock.old) (E.words entropy.old) (O.written capture.old)
+            (O.written out.old) (L.faults link.old)
+            (faults (C.faults clock.old) (E.faults entropy.old) (D.faults disk.old)
+            (O.faults capture.old) (O.faults out.old)))
+            (seen (L.told link.new) (C.told clock.new) (E.words entropy.new) (O.written capture.new)
+            (O.written out.new) (L.faults link.new)
+            (faults (C.faults clock.new) (E.faults entropy.new) (D.faults disk.new)
+            (O.faults capture.new) (O.faults out.new)))
+            (why_of result) }
+        ensures going { OnOk result (IsGoing (D.told disk.new) self.new) }
+
+        // The disk fails, and no mark is left, only where the counts that were reserved are used up. Where none is left,
+        // the disk isn't called.
+        ensures disk { IsErrOf result Why.DiskFault → IsUsedUp self.old }
+        ensures spent { IsErrOf result Why.StampsSpent
+            ↔ (IsUsedUp self.old × (4294967231 < kept_of self.old)) }
+        ensures spent_still { IsErrOf result Why.StampsSpent
+            → (D.told disk.new).time ≡ (D.told disk.old).time }
+        ensures calls { CallsWhereDue self.old (D.told disk.old) (D.told disk.new) }
+
+        // Whatever it answers, no image stands for less than one at entry, or than the greatest count sent, nor for more
+        // than a block that was due, and a load refuses none.
+        ensures least { KeepsMarks (D.told disk.old) (D.told disk.new) }
+        ensures most { RisesWhereDue self.old (D.told disk.new) }
+        ensures still_loads { KeepsLoadable (D.told disk.old) (D.told disk.new) }
+        ensures covers { Covers (D.told disk.new) (greatest_of self.new) }
+        ensures never { (IsErrOf result Why.Done → ⊥) × (IsErrOf result Why.BadVersion → ⊥) }
+    {
+        self.tick(link, clock, disk, entropy, out, capture)?;
+        self.receive(link, clock, out, capture)
+    }
+
+    /// The first part of a turn, up to the receipt.
+    pub(crate) fn tick<L: Link, C: Clock, D: Disk, E: Entropy, O: Sink>(
+        &mut self,
+        link: &mut L,
+        clock: &mut C,
+        disk: &mut D,
+        entropy: &mut E,
+        out: &mut O,
+        capture: &mut O,
+    ) -> Result<(), Why>
+        requires going { IsGoing (D.told disk.old) self.old }
+        ensures part { (left : ℕ) → IsPart self.old self.new (Turns (suc left)) (ReceiptNow left)
+            (seen (L.told link.old) (C.told clock.old) (E.words entropy.old) (O.written capture.old)
+            (O.written out.old) (L.faults link.old)
+            (faults (C.faults clock.old) (E.faults entropy.old) (D.faults disk.old)
+            (O.faults capture.old) (O.faults out.old)))
+            (seen (L.told link.new) (C.told clock.new) (E.words entropy.new) (O.written capture.new)
+            (O.written out.new) (L.faults link.new)
+            (faults (C.faults clock.new) (E.faults entropy.new) (D.faults disk.new)
+            (O.faults capture.new) (O.faults out.new)))
+            (why_of result) }
+        ensures going { OnOk result (IsGoing (D.told disk.new) self.new) }
+        ensures disk { IsErrOf result Why.DiskFault → IsUsedUp self.old }
+        ensures spent { IsErrOf result Why.StampsSpent
+            ↔ (IsUsedUp self.old × (4294967231 < kept_of self.old)) }
+        ensures spent_still { IsErrOf result Why.StampsSpent
+            → (D.told disk.new).time ≡ (D.told disk.old).time }
+        ensures calls { CallsWhereDue self.old (D.told disk.old) (D.told disk.new) }
+        ensures least { KeepsMarks (D.told disk.old) (D.told disk.new) }
+        ensures most { RisesWhereDue self.old (D.told disk.new) }
+        ensures still_loads { KeepsLoadable (D.told disk.old) (D.told disk.new) }
+        ensures covers { Covers (D.told disk.new) (greatest_of self.new) }
+        ensures never { (IsErrOf result Why.Done → ⊥) × (IsErrOf result Why.BadVersion → ⊥) }
+    {
+        self.ensure_count(disk)?;
+        let now = read(clock)?;
+        let word = draw(entropy)?;
+        self.take(&Event::Tick { now, word }, link, clock, out, capture)?;
+        Ok(())
+    }
+
+    /// The receipt of a turn, with what arrived in it.
+    pub(crate) fn receive<L: Link, C: Clock, O: Sink>(
+        &mut self,
+        link: &mut L,
+        clock: &mut C,
+        out: &mut O,
+        capture: &mut O,
+    ) -> Result<(), Why>
+        requires begun { IsBegun self.old }
+        ensures part { (left : ℕ) (words : Option (List ℕ)) (entropy disk : ℕ)
+            → IsPart self.old self.new (ReceiptNow left) (Turns left)
+            (seen (L.told link.old) (C.told clock.old) words (O.written capture.old)
+            (O.written out.old) (L.faults link.old)
+            (faults (C.faults clock.old) entropy disk (O.faults capture.old) (O.faults out.old)))
+            (seen (L.told link.new) (C.told clock.new) words (O.written capture.new)
+            (O.written out.new) (L.faults link.new)
+            (faults (C.faults clock.new) entropy disk (O.faults capture.new) (O.faults out.new)))
+            (why_of result) }
+        ensures begun { OnOk result (IsBegun self.new) }
+        ensures sends_none { SendsNone self.old self.new }
+        ensures never { IfErr result IsOfReceipt }
+    {
+        match link.recv() {
+            Receipt::Got(from, bytes) => {
+                self.arrive(from, bytes, link, clock, out, capture)?;
+                Ok(())
+            }
+            Receipt::Quiet => {
+                self.totals.count_quiet();
+                Ok(())
+            }
+            Receipt::Failed => {
+                self.totals.count_lost();
+                Ok(())
+            }
+        }
+    }
+
+    /// A datagram that was received: with the next reading it makes an Arrive, which is taken.
+    pub(crate) fn arrive<L: Link, C: Clock, O: Sink>(
+        &mut self,
+        from: Addr,
+        bytes: Datagram,
+        link: &mut L,
+        clock: &mut C,
+        out: &mut O,
+        capture: &mut O,
+    ) -> Result<Outcome, Why>
+        requires begun { IsBegun self.old }
+        requires fits { ReceiptFits (Receipt.Got from bytes) }
+        ensures takes { (words : Option (List ℕ)) (entropy disk : ℕ) (history : History)
+            → StandsForHistory (member_of self.old) history
+            → TakesAt (conf_of (member_of self.old)) history (λ now. Event.Arrive now from bytes)
+            (seen (L.told link.old) (C.told clock.old) words (O.written capture.old)
+            (O.written out.old) (L.faults link.old)
+            (faults (C.faults clock.old) entropy disk (O.faults capture.old) (O.faults out.old)))
+            (seen (L.told link.new) (C.told clock.new) words (O.written capture.new)
+            (O.written out.new) (L.faults link.new)
+            (faults (C.faults clock.new) entropy disk (O.faults capture.new) (O.faults out.new)))
+            (member_of self.new) (totals_of self.old) (totals_of self.new) (why_of result) }
+        // The answer is what it led to.
+        ensures outcome { IfOk result (λ outcome. (words : Option (List ℕ)) (entropy disk : ℕ)
+            (history : History) → StandsForHistory (member_of self.old) history
+            → TakesTo (conf_of (member_of self.old)) history (λ now. Event.Arrive now from bytes)
+            (seen (L.told link.old) (C.told clock.old) words (O.written capture.old)
+            (O.written out.old) (L.faults link.old)
+            (faults (C.faults clock.old) entropy disk (O.faults capture.old) (O.faults out.old)))
+            (seen (L.told link.new) (C.told clock.new) words (O.written capture.new)
+            (O.written out.new) (L.faults link.new)
+            (faults (C.faults clock.new) entropy disk (O.faults capture.new) (O.faults out.new)))
+            (member_of self.new) (totals_of self.old) (totals_of self.new) outcome) }
+        ensures begun { IsBegun self.new }
+        ensures sends_none { SendsNone self.old self.new }
+        ensures never { IfErr result IsOfReceipt }
+    {
+        let now = read(clock)?;
+        self.take(
+            &Event::Arrive { now, from, bytes },
+            link,
+            clock,
+            out,
+            capture,
+        )
+    }
+
+    /// The closing lines of a run.
+    pub(crate) fn close<O: Sink>(&self, out: &mut O) -> Result<(), Why>
+        ensures { Closes (totals_of self.now) (why_of result)
+            (O.written out.old) (O.written out.new) (O.faults out.old) (O.faults out.new) }
+    {
+        write_closing_lines(&self.totals, out)
+    }
+
+    /// The place in rank, from 0, of the partner whose reply was last accepted in this run.
+    pub fn source(&self) -> Option<usize>
+        ensures { (history : History) → StandsForHistory (member_of self.now) history
+            → result ≡ source_of (conf_of (member_of self.now)) history }
+    {
+        self.member.source()
+    }
+
+    /// What the run came to so far. Its `why` is `Done`.
+    pub fn totals(&self) -> LifeEnd
+        ensures { result ≡ totals_of self.now }
+    {
+        self.totals
+    }
+}
