@@ -12,7 +12,7 @@ use Rattle.key_book.specs.declared.account.Account.{Account}
 use Rattle.key_book.specs.AccountText.{SpellsKey}
 use Rattle.key_book.proofs.AccountLines.{account_is as same_account}
 use Rattle.w32tm_text.specs.declared.words.Action.{Action}
-use Rattle.w32tm_text.specs.declared.words.Action.TheVariants.{Sign, Show, Dc, Monitor, Replay}
+use Rattle.w32tm_text.specs.declared.words.Action.TheVariants.{Sign, Show, Dc, Member, Monitor, Replay}
 use Rattle.w32tm_text.specs.Words.{SpellsAccount, SpellsAction, SpellsDatagram, SpellsKeys, colon}
 
 -- the keys that a text with a colon spells, cut there
@@ -91,6 +91,9 @@ is_sign word text (Show bytes) begins spells =
     absurd (omega (arith, differ))
 is_sign word text (Dc turns) begins spells =
     let differ : 115 ≡ 100 = ap (λ (l : List ℕ). get_or l 1 0) (sym begins ∙ spells.written) in
+    absurd (omega (arith, differ))
+is_sign word text (Member turns) begins spells =
+    let differ : 115 ≡ 109 = ap (λ (l : List ℕ). get_or l 1 0) (sym begins ∙ spells.written) in
     absurd (omega (arith, differ))
 is_sign word text Monitor begins spells =
     let differ : 115 ≡ 109 = ap (λ (l : List ℕ). get_or l 1 0) (sym begins ∙ spells) in

@@ -10,7 +10,7 @@ use Rattle.text_grammar.specs.Address.{SpellsPort}
 use Rattle.w32tm_text.specs.declared.options.Given.{Given}
 use Rattle.w32tm_text.specs.declared.options.Given.TheVariants as given
 use Rattle.w32tm_text.specs.declared.options.OptionName.{OptionName}
-use Rattle.w32tm_text.specs.declared.options.OptionName.TheVariants.{Config, Capture, Port}
+use Rattle.w32tm_text.specs.declared.options.OptionName.TheVariants.{Config, Keeper, Capture, Port}
 use Rattle.w32tm_text.specs.declared.options.Rule.TheVariants.{Refused}
 use Rattle.w32tm_text.specs.declared.words.Action.{Action}
 use Rattle.w32tm_text.specs.declared.words.Command.{Command}
@@ -21,14 +21,30 @@ use Rattle.w32tm_text.specs.Options.{GivesAt, GivesOneOf, IsMissing, IsOnlyAt, S
 -- the name with which a word begins is one
 pub one_name : (a b : OptionName) (x y : List ℕ) → name_text a ++ x ≡ name_text b ++ y → a ≡ b
 one_name Config Config x y same = refl
+one_name Config Keeper x y same =
+    let differ : 99 ≡ 107 = ap (λ (l : List ℕ). get_or l 1 0) same in
+    absurd (omega (arith, differ))
 one_name Config Capture x y same =
     let differ : 111 ≡ 97 = ap (λ (l : List ℕ). get_or l 2 0) same in
     absurd (omega (arith, differ))
 one_name Config Port x y same =
     let differ : 99 ≡ 112 = ap (λ (l : List ℕ). get_or l 1 0) same in
     absurd (omega (arith, differ))
+one_name Keeper Config x y same =
+    let differ : 107 ≡ 99 = ap (λ (l : List ℕ). get_or l 1 0) same in
+    absurd (omega (arith, differ))
+one_name Keeper Keeper x y same = refl
+one_name Keeper Capture x y same =
+    let differ : 107 ≡ 99 = ap (λ (l : List ℕ). get_or l 1 0) same in
+    absurd (omega (arith, differ))
+one_name Keeper Port x y same =
+    let differ : 107 ≡ 112 = ap (λ (l : List ℕ). get_or l 1 0) same in
+    absurd (omega (arith, differ))
 one_name Capture Config x y same =
     let differ : 97 ≡ 111 = ap (λ (l : List ℕ). get_or l 2 0) same in
+    absurd (omega (arith, differ))
+one_name Capture Keeper x y same =
+    let differ : 99 ≡ 107 = ap (λ (l : List ℕ). get_or l 1 0) same in
     absurd (omega (arith, differ))
 one_name Capture Capture x y same = refl
 one_name Capture Port x y same =
@@ -36,6 +52,9 @@ one_name Capture Port x y same =
     absurd (omega (arith, differ))
 one_name Port Config x y same =
     let differ : 112 ≡ 99 = ap (λ (l : List ℕ). get_or l 1 0) same in
+    absurd (omega (arith, differ))
+one_name Port Keeper x y same =
+    let differ : 112 ≡ 107 = ap (λ (l : List ℕ). get_or l 1 0) same in
     absurd (omega (arith, differ))
 one_name Port Capture x y same =
     let differ : 112 ≡ 99 = ap (λ (l : List ℕ). get_or l 1 0) same in
@@ -76,14 +95,16 @@ IsPort value place text = SpellsPort value text
 -- what the words below a place give was taken, and each gives an option that the command has
 pub record TookBelow (words : List (List ℕ)) (n : ℕ) (c : Command) : Type 0 where
   pub config : Holds Config IsPath words n c.config
+  pub keeper : Holds Keeper IsPath words n c.keeper
   pub capture : Holds Capture IsPath words n c.capture
   pub port : Holds Port IsPort words n c.port
   pub all : (place : ℕ) → 1 ≤ place → place < n → GivesOneOf c.action words place
 
 -- no word behind the first was read
-pub took_nothing : (words : List (List ℕ)) (c : Command) → c.config ≡ None → c.capture ≡ None → c.port ≡ None → TookBelow words 1 c
-took_nothing words c config capture port = record {
+pub took_nothing : (words : List (List ℕ)) (c : Command) → c.config ≡ None → c.keeper ≡ None → c.capture ≡ None → c.port ≡ None → TookBelow words 1 c
+took_nothing words c config keeper capture port = record {
   config = subst (Holds Config IsPath words 1) (sym config) (none Config);
+  keeper = subst (Holds Keeper IsPath words 1) (sym keeper) (none Keeper);
   capture = subst (Holds Capture IsPath words 1) (sym capture) (none Capture);
   port = subst (Holds Port IsPort words 1) (sym port) (none Port);
   all = λ place behind below. absurd (omega arith);
@@ -139,18 +160,28 @@ took_with : (words : List (List ℕ)) (n : ℕ) (option : Given) (text : List �
     → TookBelow words (n + 1) (with_given n option c)
 took_with words n given.Config text c has first here value took = record {
   config = holds_now Config IsPath words n c.config n text first here (refl, value) took.config;
+  keeper = holds_on Keeper Config IsPath words n c.keeper text (λ same. cc) here took.keeper;
   capture = holds_on Capture Config IsPath words n c.capture text (λ same. cc) here took.capture;
   port = holds_on Port Config IsPort words n c.port text (λ same. cc) here took.port;
   all = all_more words n c took.all record { name = Config; text = text; has = has; gives = here };
 }
+took_with words n given.Keeper text c has first here value took = record {
+  config = holds_on Config Keeper IsPath words n c.config text (λ same. cc) here took.config;
+  keeper = holds_now Keeper IsPath words n c.keeper n text first here (refl, value) took.keeper;
+  capture = holds_on Capture Keeper IsPath words n c.capture text (λ same. cc) here took.capture;
+  port = holds_on Port Keeper IsPort words n c.port text (λ same. cc) here took.port;
+  all = all_more words n c took.all record { name = Keeper; text = text; has = has; gives = here };
+}
 took_with words n given.Capture text c has first here value took = record {
   config = holds_on Config Capture IsPath words n c.config text (λ same. cc) here took.config;
+  keeper = holds_on Keeper Capture IsPath words n c.keeper text (λ same. cc) here took.keeper;
   capture = holds_now Capture IsPath words n c.capture n text first here (refl, value) took.capture;
   port = holds_on Port Capture IsPort words n c.port text (λ same. cc) here took.port;
   all = all_more words n c took.all record { name = Capture; text = text; has = has; gives = here };
 }
 took_with words n (given.Port port) text c has first here value took = record {
   config = holds_on Config Port IsPath words n c.config text (λ same. cc) here took.config;
+  keeper = holds_on Keeper Port IsPath words n c.keeper text (λ same. cc) here took.keeper;
   capture = holds_on Capture Port IsPath words n c.capture text (λ same. cc) here took.capture;
   port = holds_now Port IsPort words n c.port port text first here value took.port;
   all = all_more words n c took.all record { name = Port; text = text; has = has; gives = here };
@@ -158,6 +189,7 @@ took_with words n (given.Port port) text c has first here value took = record {
 
 same_action : (n : ℕ) (option : Given) (c : Command) → (with_given n option c).action ≡ c.action
 same_action n given.Config c = refl
+same_action n given.Keeper c = refl
 same_action n given.Capture c = refl
 same_action n (given.Port port) c = refl
 
@@ -197,6 +229,7 @@ given_below name Means words n (Some value) there (place, text, means, one) = (p
 took_below : (words : List (List ℕ)) (n : ℕ) (c : Command) (name : OptionName) → is_given name c ≡ true → TookBelow words n c
     → (place : ℕ) × (text : List ℕ) × (place < n) × GivesAt name words place text
 took_below words n c Config there took = given_below Config IsPath words n c.config there took.config
+took_below words n c Keeper there took = given_below Keeper IsPath words n c.keeper there took.keeper
 took_below words n c Capture there took = given_below Capture IsPath words n c.capture there took.capture
 took_below words n c Port there took = given_below Port IsPort words n c.port there took.port
 
@@ -204,6 +237,7 @@ took_below words n c Port there took = given_below Port IsPort words n c.port th
 pub all_taken : (words : List (List ℕ)) (n : ℕ) (c : Command) → length words ≤ n → HasRequired c → TookBelow words n c → SpellOptions c words
 all_taken words n c all complete took = record {
   config = whole_place Config words n c.config all took.config;
+  keeper = whole_place Keeper words n c.keeper all took.keeper;
   capture = whole_place Capture words n c.capture all took.capture;
   port = whole_port words n c.port all took.port;
   all = λ place behind below. took.all place behind (omega arith);
@@ -222,6 +256,7 @@ is_complete words n c d all took same spelled name must = there name (spelled.re
   where
     there : (name : OptionName) → ¬ IsMissing name words → is_given name c ≡ true
     there Config some = held Config IsPath words n c.config all some took.config
+    there Keeper some = held Keeper IsPath words n c.keeper all some took.keeper
     there Capture some = held Capture IsPath words n c.capture all some took.capture
     there Port some = held Port IsPort words n c.port all some took.port
 
@@ -242,17 +277,19 @@ one_port words (Some a) (Some b) (p, x, first, one) (q, y, second, other) =
     let same : x ≡ y = same_text words q Port x y (subst (λ (k : ℕ). GivesAt Port words k x) at one.gives) other.gives in
     ap Some (decimal_injective a b (omega (arith, first.fits)) (omega (arith, second.fits)) (sym first.written ∙ same ∙ second.written))
 
-same_parts : (a b : Action) (c d e f g h : Option ℕ) → a ≡ b → c ≡ d → e ≡ f → g ≡ h
-    → ◌≡◌ {A = Command} (record { action = a; config = c; capture = e; port = g }) (record { action = b; config = d; capture = f; port = h })
-same_parts a b c d e f g h action config capture port = cc
+same_parts : (a b : Action) (c d k l e f g h : Option ℕ) → a ≡ b → c ≡ d → k ≡ l → e ≡ f → g ≡ h
+    → ◌≡◌ {A = Command} (record { action = a; config = c; keeper = k; capture = e; port = g }) (record { action = b; config = d; keeper = l; capture = f; port = h })
+same_parts a b c d k l e f g h action config keeper capture port = cc
 
-command_is : (c d : Command) → c.action ≡ d.action → c.config ≡ d.config → c.capture ≡ d.capture → c.port ≡ d.port → c ≡ d
-command_is c d action config capture port = same_parts c.action d.action c.config d.config c.capture d.capture c.port d.port action config capture port
+command_is : (c d : Command) → c.action ≡ d.action → c.config ≡ d.config → c.keeper ≡ d.keeper → c.capture ≡ d.capture → c.port ≡ d.port → c ≡ d
+command_is c d action config keeper capture port =
+    same_parts c.action d.action c.config d.config c.keeper d.keeper c.capture d.capture c.port d.port action config keeper capture port
 
 -- one command is spelled
 pub one_command : (words : List (List ℕ)) (c d : Command) → c.action ≡ d.action → SpellOptions c words → SpellOptions d words → c ≡ d
 one_command words c d same first second =
-    command_is c d same (one_place Config words c.config d.config first.config second.config) (one_place Capture words c.capture d.capture first.capture second.capture)
+    command_is c d same (one_place Config words c.config d.config first.config second.config)
+    (one_place Keeper words c.keeper d.keeper first.keeper second.keeper) (one_place Capture words c.capture d.capture first.capture second.capture)
     (one_port words c.port d.port first.port second.port)
 
 -- what stands behind the name of the only word of an option is its value
@@ -275,6 +312,7 @@ value_of words d name place text spelled gives = by_name name gives
 
     by_name : (name : OptionName) → GivesAt name words place text → (option : Given) × (name_of option ≡ name) × SpellsValue option text
     by_name Config gives = (given.Config, refl, path_of Config d.config spelled.config gives)
+    by_name Keeper gives = (given.Keeper, refl, path_of Keeper d.keeper spelled.keeper gives)
     by_name Capture gives = (given.Capture, refl, path_of Capture d.capture spelled.capture gives)
     by_name Port gives = let (port, spells) = port_of d.port spelled.port gives in (given.Port port, refl, spells)
 
@@ -292,6 +330,7 @@ one_gives words d name a b x y spelled first second = by_name name first second
 
     by_name : (name : OptionName) → GivesAt name words a x → GivesAt name words b y → a ≡ b
     by_name Config first second = by_place Config d.config spelled.config first second
+    by_name Keeper first second = by_place Keeper d.keeper spelled.keeper first second
     by_name Capture first second = by_place Capture d.capture spelled.capture first second
     by_name Port first second = by_port d.port spelled.port first second
 

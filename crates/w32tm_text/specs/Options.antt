@@ -4,16 +4,17 @@
 use Rattle.std.specs.Prelude.{◌≡◌, ◌≢◌, ◌<◌, ◌≤◌, ℕ, List, ◌++◌, length, codes, slice_get, Option, Some, None}
 use Rattle.text_grammar.specs.Address.{SpellsPort}
 use Rattle.w32tm_text.specs.declared.options.OptionName.{OptionName}
-use Rattle.w32tm_text.specs.declared.options.OptionName.TheVariants.{Config, Capture, Port}
+use Rattle.w32tm_text.specs.declared.options.OptionName.TheVariants.{Config, Keeper, Capture, Port}
 use Rattle.w32tm_text.specs.declared.options.Rule.{Rule}
 use Rattle.w32tm_text.specs.declared.options.Rule.TheVariants.{Required, Allowed, Refused}
 use Rattle.w32tm_text.specs.declared.words.Action.{Action}
-use Rattle.w32tm_text.specs.declared.words.Action.TheVariants.{Sign, Show, Dc, Monitor, Replay}
+use Rattle.w32tm_text.specs.declared.words.Action.TheVariants.{Sign, Show, Dc, Member, Monitor, Replay}
 use Rattle.w32tm_text.specs.declared.words.Command.{Command}
 
 -- how the words that give an option begin
 abbrev pub name_text : OptionName → List ℕ
 name_text Config = codes "/config:"
+name_text Keeper = codes "/keeper:"
 name_text Capture = codes "/capture:"
 name_text Port = codes "/port:"
 
@@ -22,12 +23,19 @@ abbrev pub rule_of : Action → OptionName → Rule
 rule_of (Sign account) name = Refused
 rule_of (Show bytes) name = Refused
 rule_of (Dc turns) Config = Required
+rule_of (Dc turns) Keeper = Refused
 rule_of (Dc turns) Capture = Refused
 rule_of (Dc turns) Port = Allowed
+rule_of (Member turns) Config = Required
+rule_of (Member turns) Keeper = Required
+rule_of (Member turns) Capture = Allowed
+rule_of (Member turns) Port = Allowed
 rule_of Monitor Config = Required
+rule_of Monitor Keeper = Refused
 rule_of Monitor Capture = Refused
 rule_of Monitor Port = Allowed
 rule_of Replay Config = Required
+rule_of Replay Keeper = Refused
 rule_of Replay Capture = Allowed
 rule_of Replay Port = Refused
 
@@ -67,6 +75,7 @@ pub record GivesOneOf (action : Action) (words : List (List ℕ)) (place : ℕ) 
 -- that it requires are there
 pub record SpellOptions (c : Command) (words : List (List ℕ)) : Type 0 where
   pub config : SpellsPlace Config words c.config
+  pub keeper : SpellsPlace Keeper words c.keeper
   pub capture : SpellsPlace Capture words c.capture
   pub port : SpellsPortOption words c.port
   pub all : (place : ℕ) → 1 ≤ place → place < length words → GivesOneOf c.action words place

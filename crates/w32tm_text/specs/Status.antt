@@ -3,7 +3,7 @@ use Rattle.std.specs.Prelude.{ℕ, List, [], ◌∷◌, ◌++◌, codes, decimal
 use Rattle.dc_sign.specs.declared.outcome.Refusal.{Refusal}
 use Rattle.dc_sign.specs.declared.outcome.Refusal.TheVariants.{BadLength, BadVersion, BadMode, UnknownAccount, NoOldKey}
 use Rattle.w32tm_text.specs.declared.status.Status.{Status}
-use Rattle.w32tm_text.specs.declared.status.Status.TheVariants.{Done, BadWords, BadConfig, BadCapture, ReadFault, WriteFault, ClockFault, EntropyFault, NoPartner, BadRequest, NoMemory}
+use Rattle.w32tm_text.specs.declared.status.Status.TheVariants.{Done, BadWords, BadConfig, BadCapture, ReadFault, WriteFault, DiskFault, BadKeeper, StampsSpent, ClockFault, EntropyFault, NoPartner, BadRequest, NoMemory}
 
 -- the exit code of each status
 abbrev pub code_of : Status → ℕ
@@ -13,6 +13,9 @@ code_of (BadConfig line) = 2
 code_of (BadCapture at) = 3
 code_of ReadFault = 4
 code_of WriteFault = 5
+code_of DiskFault = 6
+code_of BadKeeper = 7
+code_of StampsSpent = 8
 code_of ClockFault = 9
 code_of EntropyFault = 10
 code_of NoPartner = 11
@@ -35,6 +38,9 @@ line_of (BadConfig line) = codes "w32tm: bad settings at line " ++ decimal line 
 line_of (BadCapture at) = codes "w32tm: bad capture at byte " ++ decimal at ++ 10 ∷ []
 line_of ReadFault = codes "w32tm: read fault" ++ 10 ∷ []
 line_of WriteFault = codes "w32tm: write fault" ++ 10 ∷ []
+line_of DiskFault = codes "w32tm: disk fault" ++ 10 ∷ []
+line_of BadKeeper = codes "w32tm: bad keeper" ++ 10 ∷ []
+line_of StampsSpent = codes "w32tm: stamps spent" ++ 10 ∷ []
 line_of ClockFault = codes "w32tm: clock fault" ++ 10 ∷ []
 line_of EntropyFault = codes "w32tm: entropy fault" ++ 10 ∷ []
 line_of NoPartner = codes "w32tm: no partner" ++ 10 ∷ []

@@ -5,7 +5,7 @@ use Rattle.hex.specs.Hex.{decode_of}
 use Rattle.key_book.specs.declared.account.Account.{Account}
 use Rattle.key_book.specs.AccountText.{SpellsKey}
 use Rattle.w32tm_text.specs.declared.words.Action.{Action}
-use Rattle.w32tm_text.specs.declared.words.Action.TheVariants.{Sign, Show, Dc, Monitor, Replay}
+use Rattle.w32tm_text.specs.declared.words.Action.TheVariants.{Sign, Show, Dc, Member, Monitor, Replay}
 use Rattle.w32tm_text.specs.declared.words.Command.{Command}
 use Rattle.w32tm_text.specs.Options.{SpellOptions}
 
@@ -49,17 +49,18 @@ pub record SpellsShow (bytes word : List ℕ) : Type 0 where
   pub written : word ≡ codes "/show:" ++ digits
   pub spelled : SpellsDatagram bytes digits
 
--- `/dc:` and the number of turns, a decimal of 1 to 1,000,000
-pub record SpellsDc (turns : ℕ) (word : List ℕ) : Type 0 where
+-- the name of a command and the number of its turns, a decimal of 1 to 1,000,000
+pub record SpellsTurns (name : List ℕ) (turns : ℕ) (word : List ℕ) : Type 0 where
   pub some : 1 ≤ turns
   pub most : turns ≤ 1000000
-  pub written : word ≡ codes "/dc:" ++ decimal turns
+  pub written : word ≡ name ++ decimal turns
 
 -- the first word says what is to be done
 abbrev pub SpellsAction : Action → List ℕ → Type 0
 SpellsAction (Sign account) word = SpellsSign account word
 SpellsAction (Show bytes) word = SpellsShow bytes word
-SpellsAction (Dc turns) word = SpellsDc turns word
+SpellsAction (Dc turns) word = SpellsTurns (codes "/dc:") turns word
+SpellsAction (Member turns) word = SpellsTurns (codes "/member:") turns word
 SpellsAction Monitor word = word ≡ codes "/monitor"
 SpellsAction Replay word = word ≡ codes "/replay"
 
@@ -88,6 +89,10 @@ IsShow bytes words = IsCommand (Show bytes) words
 -- the words spell `/dc` for so many turns
 abbrev pub IsDc : ℕ → List (List ℕ) → Type 0
 IsDc turns words = IsCommand (Dc turns) words
+
+-- the words spell `/member` for so many turns
+abbrev pub IsMember : ℕ → List (List ℕ) → Type 0
+IsMember turns words = IsCommand (Member turns) words
 
 -- the words spell `/monitor`
 abbrev pub IsMonitor : List (List ℕ) → Type 0

@@ -2,19 +2,20 @@
 //!
 //! Words are read as a command with its options, [`read_words`]. `/show` prints a message by [`show_lines`], and `/dc`
 //! ends with [`dc_lines`]. A run ends with a [`Status`], which has an exit code and a line on standard error,
-//! [`status_line`]. The settings text, which `/config:` names, is read by [`read_settings`] of `w32t_settings`, whose
-//! [`Settings`] are handed on with their definitions; what a member is set to by them says [`conf_of`].
+//! [`status_line`]. The settings text is read by [`read_settings`] of `w32t_settings`, whose [`Settings`] are handed on
+//! with their definitions; [`conf_of`] says what a member is set to by them.
 //!
 //! It stands on `dc_sign`, `key_book` and `ms_auth` for what a command names and prints, on `text_grammar` for how
 //! numbers, ports and keys are spelled, on `line_text` for lines that are written without memory, and on
 //! `w32t_settings`, `partner_pick`, `phase_rule` and `time_machine` for settings and members. The layer above may rely
-//! on this: words are a command exactly where the grammar says so, and one command at most; a message has its
-//! five lines, the end of `/dc` its three, and a status its one code and its one line.
+//! on this: words are a command exactly where the grammar says so, and one command at most; a message has its five lines,
+//! the end of `/dc` its three, and a status its one code and its one line; a member is set to exactly what its settings
+//! say, and there is no partner exactly where they have no candidate.
 //!
-//! The definitions stand in `specs/`: `Words.antt` has the grammar of commands, `Options.antt` which options each
-//! command requires and allows and where they stand, `Show.antt` the lines of a message, `Dc.antt` those with which
-//! `/dc` ends, `Conf.antt` what a member is set to, and `Status.antt` the codes and the lines of statuses. `Given.antt` says what one word more makes of the
-//! options that were taken, which only the reader of options speaks of.
+//! The definitions stand in `specs/`: `Words.antt` has the grammar of commands, `Options.antt` which options each command
+//! requires and allows and where they stand, `Show.antt` the lines of a message, `Dc.antt` those with which `/dc` ends,
+//! `Status.antt` the codes and the lines of statuses, and `Conf.antt` what a member is set to. `Given.antt` belongs to the
+//! private part.
 #![tactic(auto)]
 
 mod conf;

@@ -15,6 +15,8 @@ use text_grammar::read_port;
 pub(crate) enum OptionName {
     /// `/config:`
     Config,
+    /// `/keeper:`
+    Keeper,
     /// `/capture:`
     Capture,
     /// `/port:`
@@ -22,7 +24,12 @@ pub(crate) enum OptionName {
 }
 
 /// All options.
-const OPTION_NAMES: [OptionName; 3] = [OptionName::Config, OptionName::Capture, OptionName::Port];
+const OPTION_NAMES: [OptionName; 4] = [
+    OptionName::Config,
+    OptionName::Keeper,
+    OptionName::Capture,
+    OptionName::Port,
+];
 
 /// Whether words with a command have an option.
 #[derive(Clone, Copy, PartialEq, Eq)]
@@ -40,6 +47,8 @@ pub(crate) enum Rule {
 pub(crate) enum Given {
     /// `/config:PATH`
     Config,
+    /// `/keeper:PATH`
+    Keeper,
     /// `/capture:PATH`
     Capture,
     /// `/port:N`
@@ -57,6 +66,7 @@ pub(crate) fn read_options(action: Action, words: &Vec<String>) -> Option<Comman
     let mut command = Command {
         action,
         config: None,
+        keeper: None,
         capture: None,
         port: None,
     };
@@ -85,6 +95,7 @@ impl Command {
         }
         match given {
             Given::Config => self.config = Some(place),
+            Given::Keeper => self.keeper = Some(place),
             Given::Capture => self.capture = Some(place),
             Given::Port(port) => self.port = Some(port),
         }
@@ -104,6 +115,7 @@ impl Command {
     {
         match name {
             OptionName::Config => self.config.is_some(),
+            OptionName::Keeper => self.keeper.is_some(),
             OptionName::Capture => self.capture.is_some(),
             OptionName::Port => self.port.is_some(),
         }
@@ -122,13 +134,17 @@ impl Action {
             Action::Sign(_) | Action::Show(_) => Rule::Refused,
             Action::Dc(_) | Action::Monitor => match name {
                 OptionName::Config => Rule::Required,
-                OptionName::Capture => Rule::Refused,
+                OptionName::Keeper | OptionName::Capture => Rule::Refused,
                 OptionName::Port => Rule::Allowed,
+            },
+            Action::Member(_) => match name {
+                OptionName::Config | OptionName::Keeper => Rule::Required,
+                OptionName::Capture | OptionName::Port => Rule::Allowed,
             },
             Action::Replay => match name {
                 OptionName::Config => Rule::Required,
                 OptionName::Capture => Rule::Allowed,
-                OptionName::Port => Rule::Refused,
+                OptionName::Keeper | OptionName::Port => Rule::Refused,
             },
         }
     }
@@ -141,6 +157,7 @@ impl Given {
     {
         match self {
             Given::Config => OptionName::Config,
+            Given::Keeper => OptionName::Keeper,
             Given::Capture => OptionName::Capture,
             Given::Port(_) => OptionName::Port,
         }
@@ -154,6 +171,9 @@ fn read_option(word: &[u8]) -> Option<Given>
 {
     if let Some(path) = behind(word, b"/config:") {
         return (!path.is_empty()).then_some(Given::Config);
+    }
+    if let Some(path) = behind(word, b"/keeper:") {
+        return (!path.is_empty()).then_some(Given::Keeper);
     }
     if let Some(path) = behind(word, b"/capture:") {
         return (!path.is_empty()).then_some(Given::Capture);

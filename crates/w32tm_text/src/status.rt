@@ -23,6 +23,12 @@ pub enum Status {
     ReadFault,
     /// A write failed.
     WriteFault,
+    /// A call of the disk failed.
+    DiskFault,
+    /// The keeper is of another version.
+    BadKeeper,
+    /// All counts of stamps are spent.
+    StampsSpent,
     /// A reading of the clock failed.
     ClockFault,
     /// No random numbers could be drawn.
@@ -47,6 +53,9 @@ impl Status {
             Status::BadCapture { .. } => 3,
             Status::ReadFault => 4,
             Status::WriteFault => 5,
+            Status::DiskFault => 6,
+            Status::BadKeeper => 7,
+            Status::StampsSpent => 8,
             Status::ClockFault => 9,
             Status::EntropyFault => 10,
             Status::NoPartner => 11,
@@ -67,6 +76,9 @@ pub fn status_line(status: &Status) -> LineText
         Status::BadCapture { at } => numbered("w32tm: bad capture at byte ", *at),
         Status::ReadFault => line("w32tm: read fault\n"),
         Status::WriteFault => line("w32tm: write fault\n"),
+        Status::DiskFault => line("w32tm: disk fault\n"),
+        Status::BadKeeper => line("w32tm: bad keeper\n"),
+        Status::StampsSpent => line("w32tm: stamps spent\n"),
         Status::ClockFault => line("w32tm: clock fault\n"),
         Status::EntropyFault => line("w32tm: entropy fault\n"),
         Status::NoPartner => line("w32tm: no partner\n"),

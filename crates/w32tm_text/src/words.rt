@@ -28,6 +28,8 @@ pub enum Action {
     Show(Datagram),
     /// `/dc:TURNS`: serve the accounts of the settings, for so many turns.
     Dc(u32),
+    /// `/member:TURNS`: keep the clock by the partners of the settings, for so many turns.
+    Member(u32),
     /// `/monitor`: ask each computer of the settings for the time, once.
     Monitor,
     /// `/replay`: print what a member does with the events of a capture.
@@ -42,6 +44,8 @@ pub struct Command {
     /// The word in which the path of the settings text stands, behind `/config:`. Words are counted from 0, with the
     /// command.
     pub config: Option<usize>,
+    /// The word in which the path of the keeper's file stands, behind `/keeper:`.
+    pub keeper: Option<usize>,
     /// The word in which the path of the capture stands, behind `/capture:`.
     pub capture: Option<usize>,
     /// The local port of the link, 1 to 65,535, of `/port:`.
@@ -61,6 +65,8 @@ pub struct BadWords;
 /// - `/show:HEX`, where HEX is an even number of hexadecimal digits in either case, 0 to 512.
 /// - `/dc:TURNS`, where TURNS is a decimal of 1 to 1,000,000 without sign or leading zero. It requires `/config:PATH`
 ///   and allows `/port:N`.
+/// - `/member:TURNS`, with TURNS as for `/dc`. It requires `/config:PATH` and `/keeper:PATH`, and allows
+///   `/capture:PATH` and `/port:N`.
 /// - `/monitor`, which requires `/config:PATH` and allows `/port:N`.
 /// - `/replay`, which requires `/config:PATH` and allows `/capture:PATH`.
 ///
@@ -95,6 +101,9 @@ fn read_action(word: &[u8]) -> Option<Action>
     }
     if let Some(turns) = behind(word, b"/dc:") {
         return Some(Action::Dc(read_turns(turns)?));
+    }
+    if let Some(turns) = behind(word, b"/member:") {
+        return Some(Action::Member(read_turns(turns)?));
     }
     if word == MONITOR {
         Some(Action::Monitor)

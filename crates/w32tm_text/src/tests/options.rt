@@ -7,6 +7,7 @@ use std::test::Fail;
 #[derive(Clone, Copy, Debug, PartialEq, Eq)]
 enum Work {
     Dc(u32),
+    Member(u32),
     Monitor,
     Replay,
 }
@@ -15,6 +16,7 @@ fn work_of(command: &Command) -> Option<Work> {
     match &command.action {
         Action::Sign(_) | Action::Show(_) => None,
         Action::Dc(turns) => Some(Work::Dc(*turns)),
+        Action::Member(turns) => Some(Work::Member(*turns)),
         Action::Monitor => Some(Work::Monitor),
         Action::Replay => Some(Work::Replay),
     }
@@ -199,13 +201,150 @@ fn options_in_any_order(rt: HostRuntime) -> Result<(), Fail> {
         };
         assert_eq!(rt; work_of(&command), Some(action), "{texts:?}");
         assert_eq!(rt; command.config, Some(config), "{texts:?}");
+        assert_eq!(rt; command.keeper, None, "{texts:?}");
         assert_eq!(rt; command.capture, capture, "{texts:?}");
         assert_eq!(rt; command.port, port, "{texts:?}");
     }
     Ok(())
 }
 
-const BAD: [&[&str]; 81] = [
+// Words of `/member`, and what they say: the turns, the words in which the paths of the settings, of the keeper's file
+// and of the capture stand, and the port.
+const MEMBERS: [(&[&str], u32, usize, usize, Option<usize>, Option<u16>); 12] = [
+    (
+        &["/member:1", "/config:a", "/keeper:b"],
+        1,
+        1,
+        2,
+        None,
+        None,
+    ),
+    (
+        &["/member:9", "/keeper:b", "/config:a"],
+        9,
+        2,
+        1,
+        None,
+        None,
+    ),
+    (
+        &["/member:999999", "/config:a", "/keeper:b"],
+        999_999,
+        1,
+        2,
+        None,
+        None,
+    ),
+    (
+        &["/member:1000000", "/config:a", "/keeper:b"],
+        1_000_000,
+        1,
+        2,
+        None,
+        None,
+    ),
+    (
+        &["/member:3", "/config:a", "/keeper:b", "/capture:c"],
+        3,
+        1,
+        2,
+        Some(3),
+        None,
+    ),
+    (
+        &["/member:3", "/config:a", "/keeper:b", "/port:1"],
+        3,
+        1,
+        2,
+        None,
+        Some(1),
+    ),
+    (
+        &["/member:3", "/config:a", "/port:65535", "/keeper:b"],
+        3,
+        1,
+        3,
+        None,
+        Some(65_535),
+    ),
+    (
+        &[
+            "/member:3",
+            "/config:a",
+            "/keeper:b",
+            "/capture:c",
+            "/port:123",
+        ],
+        3,
+        1,
+        2,
+        Some(3),
+        Some(123),
+    ),
+    (
+        &[
+            "/member:3",
+            "/port:123",
+            "/capture:c",
+            "/keeper:b",
+            "/config:a",
+        ],
+        3,
+        4,
+        3,
+        Some(2),
+        Some(123),
+    ),
+    (
+        &[
+            "/member:3",
+            "/capture:c",
+            "/config:a",
+            "/port:9",
+            "/keeper:b",
+        ],
+        3,
+        2,
+        4,
+        Some(1),
+        Some(9),
+    ),
+    // One path may stand in more than one word, and look like an option.
+    (
+        &["/member:3", "/keeper:a", "/capture:a", "/config:a"],
+        3,
+        3,
+        1,
+        Some(2),
+        None,
+    ),
+    (
+        &["/member:3", "/keeper:/config:", "/config:/keeper:"],
+        3,
+        2,
+        1,
+        None,
+        None,
+    ),
+];
+
+#[test]
+fn options_of_a_member(rt: HostRuntime) -> Result<(), Fail> {
+    for (texts, turns, config, keeper, capture, port) in MEMBERS {
+        let words = words_of(rt.alloc(), texts)?;
+        let Ok(command) = read_words(&words) else {
+            return Err("words")?;
+        };
+        assert_eq!(rt; work_of(&command), Some(Work::Member(turns)), "{texts:?}");
+        assert_eq!(rt; command.config, Some(config), "{texts:?}");
+        assert_eq!(rt; command.keeper, Some(keeper), "{texts:?}");
+        assert_eq!(rt; command.capture, capture, "{texts:?}");
+        assert_eq!(rt; command.port, port, "{texts:?}");
+    }
+    Ok(())
+}
+
+const BAD: [&[&str]; 114] = [
     // The command.
     &["/dc", "/config:a"],
     &["/dc:", "/config:a"],
@@ -229,6 +368,17 @@ const BAD: [&[&str]; 81] = [
     &["dc:1", "/config:a"],
     &["-dc:1", "/config:a"],
     &["/dcs:1", "/config:a"],
+    &["/member", "/config:a", "/keeper:b"],
+    &["/member:", "/config:a", "/keeper:b"],
+    &["/member:0", "/config:a", "/keeper:b"],
+    &["/member:01", "/config:a", "/keeper:b"],
+    &["/member:+1", "/config:a", "/keeper:b"],
+    &["/member:1000001", "/config:a", "/keeper:b"],
+    &["/member:4294967297", "/config:a", "/keeper:b"],
+    &["/Member:1", "/config:a", "/keeper:b"],
+    &["/members:1", "/config:a", "/keeper:b"],
+    &["member:1", "/config:a", "/keeper:b"],
+    &["/config:a", "/keeper:b", "/member:1"],
     &["/monitor:", "/config:a"],
     &["/monitor:1", "/config:a"],
     &["/Monitor", "/config:a"],
@@ -249,6 +399,11 @@ const BAD: [&[&str]; 81] = [
     // What is required is missing.
     &["/dc:1"],
     &["/dc:1", "/port:123"],
+    &["/member:1"],
+    &["/member:1", "/config:a"],
+    &["/member:1", "/keeper:b"],
+    &["/member:1", "/config:a", "/capture:c", "/port:5"],
+    &["/member:1", "/keeper:b", "/capture:c", "/port:5"],
     &["/monitor"],
     &["/monitor", "/port:123"],
     &["/replay"],
@@ -262,6 +417,11 @@ const BAD: [&[&str]; 81] = [
     &["/dc:1", " /config:a"],
     &["/dc:1", "/config=a"],
     &["/dc:1", "/config", "a"],
+    &["/member:1", "/config:", "/keeper:b"],
+    &["/member:1", "/config:a", "/keeper:"],
+    &["/member:1", "/config:a", "/keeper"],
+    &["/member:1", "/config:a", "/Keeper:b"],
+    &["/member:1", "/config:a", "/keeper:b", "/capture:"],
     &["/replay", "/config:a", "/capture:"],
     &["/replay", "/config:a", "/capture"],
     &["/replay", "/config:a", "/Capture:b"],
@@ -277,7 +437,20 @@ const BAD: [&[&str]; 81] = [
     &["/dc:1", "/config:a", "/port:"],
     &["/dc:1", "/config:a", "/port"],
     &["/dc:1", "/config:a", "/Port:5"],
+    &["/member:1", "/config:a", "/keeper:b", "/port:0"],
+    &["/member:1", "/config:a", "/keeper:b", "/port:65536"],
+    &["/member:1", "/config:a", "/keeper:b", "/port:"],
     // An option twice.
+    &["/member:1", "/config:a", "/keeper:b", "/config:a"],
+    &["/member:1", "/keeper:b", "/config:a", "/keeper:c"],
+    &[
+        "/member:1",
+        "/config:a",
+        "/keeper:b",
+        "/capture:c",
+        "/capture:c",
+    ],
+    &["/member:1", "/port:5", "/config:a", "/keeper:b", "/port:5"],
     &["/dc:1", "/config:a", "/config:b"],
     &["/dc:1", "/config:a", "/config:a"],
     &["/dc:1", "/port:5", "/config:a", "/port:6"],
@@ -288,6 +461,11 @@ const BAD: [&[&str]; 81] = [
     &["/monitor", "/capture:b", "/config:a"],
     &["/replay", "/config:a", "/port:5"],
     &["/dc:1", "/config:a", "/keeper:b"],
+    &["/monitor", "/config:a", "/keeper:b"],
+    &["/replay", "/config:a", "/keeper:b"],
+    &["/member:1", "/config:a", "/keeper:b", "/rpcport:5"],
+    &["/member:1", "/config:a", "/keeper:b", "/member:1"],
+    &["/member:1", "/config:a", "/keeper:b", ""],
     &["/dc:1", "/config:a", "/dc:1"],
     &["/monitor", "/config:a", "/monitor"],
     &["/dc:1", "/config:a", ""],
