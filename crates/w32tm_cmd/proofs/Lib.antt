@@ -1,9 +1,12 @@
+mod Again
 mod Commands
 mod Configuring
 mod Controlling
+mod Living
 mod Monitoring
 mod Replaying
 mod Requests
+mod Sends
 mod Showing
 mod Signing
 mod Writings

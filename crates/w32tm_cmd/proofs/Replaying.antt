@@ -4,7 +4,7 @@ use Rattle.base_specs.specs.Counts.{Rose}
 use Rattle.capture_fmt.specs.declared.event.Event.{Event}
 use Rattle.capture_fmt.specs.Capture.{SpellsEvents, place_limit}
 use Rattle.replay_run.specs.Judged.{ReplaysTo}
-use Rattle.replay_run.specs.Replay.{history_of}
+use Rattle.replay_run.specs.Replay.{ReportsAll, history_of}
 use Rattle.replay_run.specs.declared.end.ReplayEnd.{ReplayEnd}
 use Rattle.replay_run.specs.declared.end.ReplayWhy.{ReplayWhy}
 use Rattle.replay_run.specs.declared.end.ReplayWhy.TheVariants as why
@@ -13,7 +13,8 @@ use Rattle.time_machine.specs.declared.conf.Conf.{Conf}
 use Rattle.time_machine.specs.Growing.{Grows}
 use Rattle.w32t_settings.specs.Answer.{AreSettingsOf}
 use Rattle.w32t_settings.specs.declared.settings.Settings.{Settings}
-use Rattle.w32tm_cmd.specs.Replay.{ReplayPromise, ReplaysUntil, HasNoPartner, RunsReplay, IsNoPartnerExact, IsBadCaptureExact, IsReplayComplete}
+use Rattle.w32tm_cmd.specs.Partners.{HasNoPartner, IsNoPartnerExact}
+use Rattle.w32tm_cmd.specs.Replay.{ReplayPromise, ReplaysUntil, RunsReplay, IsBadCaptureExact, IsReplayComplete, IsReplayDoneOf, IsReplayWhole}
 use Rattle.w32tm_cmd.specs.Config.{IsBadConfigExact, StopsAtConfig}
 use Rattle.w32tm_cmd.specs.Seen.{Seen}
 use Rattle.w32tm_cmd.proofs.Configuring.{same_settings, settings_exact, stops_exact, stops_for_memory, stops_else}
@@ -32,6 +33,8 @@ pub record Judges (settings : Settings) (conf : Conf) (before now : Seen) (end :
   pub complete : (bytes : List ℕ) (events : List Event) → before.left ≡ Some bytes → SpellsEvents events bytes
       → length bytes < place_limit → Grows conf (history_of events)
       → ¬ Rose before.read_faults now.read_faults → ¬ Rose before.write_faults now.write_faults → end.why ≡ why.Done
+  pub whole : (bytes : List ℕ) (events : List Event) → before.left ≡ Some bytes → SpellsEvents events bytes
+      → end.why ≡ why.Done → ReportsAll conf (history_of events) end before.written now.written
   pub read_cause : end.why ≡ why.ReadFault → Rose before.read_faults now.read_faults
   pub write_cause : end.why ≡ why.WriteFault → Rose before.write_faults now.write_faults
 
@@ -92,6 +95,28 @@ complete_of before now (why.BadCapture n) runs j bytes capture settings events t
 complete_of before now why.ReadFault runs j bytes capture settings events told says some left spells short grows none = absurd (none.read (j.read_cause runs.ended))
 complete_of before now why.WriteFault runs j bytes capture settings events told says some left spells short grows none = absurd (none.write (j.write_cause runs.ended))
 
+done_of : (before now : Seen) (is : ReplayWhy) (runs : ReplaysUntil before now is) → Judges runs.settings runs.conf before now runs.end
+    → IsReplayDoneOf before now (answer_of is)
+done_of before now why.Done runs j bytes capture settings conf events told says is_conf left spells short grows none = inl refl
+done_of before now (why.BadCapture n) runs j bytes capture settings conf events told says is_conf left spells short grows none =
+    let same = same_settings before now runs.settings settings bytes told says runs.configured in
+    let own = j.one conf (subst (λ (s : Settings). IsConfOf s conf) (sym same) is_conf) in
+    let done = j.complete capture events left spells short (subst (λ (c : Conf). Grows c (history_of events)) (sym own) grows) none.read none.write in
+    let ended = runs.ended in
+    absurd (cc (done, ended))
+done_of before now why.ReadFault runs j bytes capture settings conf events told says is_conf left spells short grows none = absurd (none.read (j.read_cause runs.ended))
+done_of before now why.WriteFault runs j bytes capture settings conf events told says is_conf left spells short grows none = absurd (none.write (j.write_cause runs.ended))
+
+whole_of : (before now : Seen) (is : ReplayWhy) (runs : ReplaysUntil before now is) → Judges runs.settings runs.conf before now runs.end
+    → IsReplayWhole before now (answer_of is)
+whole_of before now why.Done runs j bytes capture settings conf events told says is_conf left spells is =
+    let same = same_settings before now runs.settings settings bytes told says runs.configured in
+    let own = j.one conf (subst (λ (s : Settings). IsConfOf s conf) (sym same) is_conf) in
+    (runs.end, subst (λ (c : Conf). ReportsAll c (history_of events) runs.end before.written now.written) own (j.whole capture events left spells runs.ended))
+whole_of before now (why.BadCapture n) runs j bytes capture settings conf events told says is_conf left spells is = cc is
+whole_of before now why.ReadFault runs j bytes capture settings conf events told says is_conf left spells is = cc is
+whole_of before now why.WriteFault runs j bytes capture settings conf events told says is_conf left spells is = cc is
+
 pub judged : (before now : Seen) (is : ReplayWhy) (runs : ReplaysUntil before now is) → Judges runs.settings runs.conf before now runs.end
     → ReplayPromise before now (answer_of is)
 judged before now is runs j = record {
@@ -100,6 +125,8 @@ judged before now is runs j = record {
   no_partner = no_partner_of before now is runs j;
   bad_capture = bad_capture_of before now is runs j;
   complete = complete_of before now is runs j;
+  done_of = done_of before now is runs j;
+  whole = whole_of before now is runs j;
 }
 
 -- ---- A replay that was not begun
@@ -113,7 +140,14 @@ partnerless before now runs none = record {
       absurd (none conf (subst (λ (s : Settings). IsConfOf s conf) (sym (same_settings before now runs.settings settings bytes told says runs.configured)) is_conf));
   complete = λ bytes capture settings events told says some left spells short grows faultless.
       absurd (subst HasNoCandidate (same_settings before now runs.settings settings bytes told says runs.configured) runs.none some.0 some.1);
+  done_of = λ bytes capture settings conf events told says is_conf left spells short grows faultless.
+      absurd (none conf (subst (λ (s : Settings). IsConfOf s conf) (sym (same_settings before now runs.settings settings bytes told says runs.configured)) is_conf));
+  whole = λ bytes capture settings conf events told says is_conf left spells is. cc is;
 }
+
+-- a command that got no settings is not done
+not_done : (before now : Seen) (result : Status) → StopsAtConfig before now result → result ≡ Done → ⊥
+not_done before now result stops is = absurd (subst (StopsAtConfig before now) is stops)
 
 promises : (before now : Seen) (result : Status) → RunsReplay before now result → StopsAtConfig before now result → ReplayPromise before now result
 promises before now result runs stops = record {
@@ -127,6 +161,9 @@ promises before now result runs stops = record {
       ];
   complete = λ bytes capture settings events told says some left spells short grows none.
       inr (stops_for_memory before now settings result bytes told says none.config stops);
+  done_of = λ bytes capture settings conf events told says is_conf left spells short grows none.
+      inr (stops_for_memory before now settings result bytes told says none.config stops);
+  whole = λ bytes capture settings conf events told says is_conf left spells is. absurd (not_done before now result stops is);
 }
 
 -- a command that got no settings

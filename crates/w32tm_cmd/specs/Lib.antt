@@ -1,6 +1,9 @@
+pub mod Again
 pub mod Config
 pub mod Dc
+pub mod Member
 pub mod Monitor
+pub mod Partners
 pub mod Replay
 pub mod Seen
 pub mod Show

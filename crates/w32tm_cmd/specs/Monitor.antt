@@ -20,13 +20,23 @@ monitor_seen s = monitoring.seen (devices s.link s.link_faults s.clock s.clock_f
     s.written s.write_faults
 
 -- The settings were read, and the computers of their directory were asked in its order, until the run ended so. The
--- input was not read.
+-- input was not read, and nothing was recorded or reserved.
 pub record MonitorsUntil (before now : Seen) (why : MonitorWhy) : Type 0 where
   pub settings : Settings
   pub configured : Configures before now settings
   pub monitors : Monitors settings.directory (monitor_seen before) (monitor_seen now) why
-  pub input : now.left ≡ before.left
-  pub no_read_fault : now.read_faults ≡ before.read_faults
+  pub others : now ≡ record before {
+    config = now.config;
+    config_faults = now.config_faults;
+    written = now.written;
+    write_faults = now.write_faults;
+    link = now.link;
+    link_faults = now.link_faults;
+    clock = now.clock;
+    clock_faults = now.clock_faults;
+    words = now.words;
+    entropy_faults = now.entropy_faults;
+  }
 
 -- what each answer of `/monitor` says
 abbrev pub RunsMonitor : Seen → Seen → Status → Type 0

@@ -6,7 +6,7 @@ use Rattle.capture_fmt.specs.Capture.{SpellsEvents, place_limit}
 use Rattle.time_machine.specs.declared.conf.Conf.{Conf}
 use Rattle.time_machine.specs.Growing.{Grows}
 use Rattle.replay_run.specs.Judged.{ReplaysTo}
-use Rattle.replay_run.specs.Replay.{Replays, history_of}
+use Rattle.replay_run.specs.Replay.{Replays, ReportsAll, history_of}
 use Rattle.replay_run.specs.Seen as replaying
 use Rattle.replay_run.specs.declared.end.ReplayEnd.{ReplayEnd}
 use Rattle.replay_run.specs.declared.end.ReplayWhy.{ReplayWhy}
@@ -14,11 +14,12 @@ use Rattle.replay_run.specs.declared.end.ReplayWhy.TheVariants as why
 use Rattle.settings_source.specs.Reading.{text_limit}
 use Rattle.w32t_settings.specs.Answer.{AreSettingsOf}
 use Rattle.w32t_settings.specs.declared.settings.Settings.{Settings}
-use Rattle.w32tm_text.specs.Conf.{HasCandidate, HasNoCandidate, IsConfOf}
+use Rattle.w32tm_text.specs.Conf.{HasCandidate, IsConfOf}
 use Rattle.w32tm_text.specs.declared.status.Status.{Status}
 use Rattle.w32tm_text.specs.declared.status.Status.TheVariants.{Done, BadCapture, ReadFault, WriteFault, NoPartner, NoMemory}
 use Rattle.w32tm_cmd.specs.Seen.{Seen}
-use Rattle.w32tm_cmd.specs.Config.{Configures, StopsAtConfig, TouchesConfigAlone, IsBadConfigExact}
+use Rattle.w32tm_cmd.specs.Config.{Configures, StopsAtConfig, IsBadConfigExact}
+use Rattle.w32tm_cmd.specs.Partners.{HasNoPartner, IsNoPartnerExact}
 
 -- what the capture and the output tell
 abbrev pub replay_seen : Seen → replaying.Seen
@@ -43,13 +44,6 @@ pub record ReplaysUntil (before now : Seen) (why : ReplayWhy) : Type 0 where
     write_faults = now.write_faults;
   }
 
--- the settings were read, and none of their computers is a candidate for their role; no other device was touched
-pub record HasNoPartner (before now : Seen) : Type 0 where
-  pub settings : Settings
-  pub configured : Configures before now settings
-  pub none : HasNoCandidate settings
-  pub alone : TouchesConfigAlone before now
-
 -- what each answer of `/replay` says
 abbrev pub RunsReplay : Seen → Seen → Status → Type 0
 RunsReplay before now Done = ReplaysUntil before now why.Done
@@ -64,13 +58,6 @@ pub record IsReplayFaultless (before now : Seen) : Type 0 where
   pub config : ¬ Rose before.config_faults now.config_faults
   pub read : ¬ Rose before.read_faults now.read_faults
   pub write : ¬ Rose before.write_faults now.write_faults
-
--- Where the text is told and its settings have no candidate, the answer is that, unless a read failed or memory was
--- wanted first.
-abbrev pub IsNoPartnerExact : Seen → Status → Type 0
-IsNoPartnerExact before result = (bytes : List ℕ) (settings : Settings) → before.config ≡ Some bytes
-    → AreSettingsOf (take text_limit bytes) settings → HasNoCandidate settings
-    → (result ≡ NoPartner) ⊎ ((result ≡ ReadFault) ⊎ (result ≡ NoMemory))
 
 -- Where text and capture are told, they decide on where the capture is bad, unless a call failed or memory was wanted
 -- first.
@@ -89,6 +76,22 @@ IsReplayComplete before now result = (bytes capture : List ℕ) (settings : Sett
     → ((conf : Conf) → IsConfOf settings conf → Grows conf (history_of events)) → IsReplayFaultless before now
     → (result ≡ Done) ⊎ (result ≡ NoMemory)
 
+-- The same of settings whose member is this one.
+abbrev pub IsReplayDoneOf : Seen → Seen → Status → Type 0
+IsReplayDoneOf before now result = (bytes capture : List ℕ) (settings : Settings) (conf : Conf) (events : List Event)
+    → before.config ≡ Some bytes → AreSettingsOf (take text_limit bytes) settings → IsConfOf settings conf
+    → before.left ≡ Some capture → SpellsEvents events capture → length capture < place_limit
+    → Grows conf (history_of events) → IsReplayFaultless before now
+    → (result ≡ Done) ⊎ (result ≡ NoMemory)
+
+-- Where the text has settings and the capture spells events, and it is done, the report of exactly their history was
+-- written, and the total line.
+abbrev pub IsReplayWhole : Seen → Seen → Status → Type 0
+IsReplayWhole before now result = (bytes capture : List ℕ) (settings : Settings) (conf : Conf) (events : List Event)
+    → before.config ≡ Some bytes → AreSettingsOf (take text_limit bytes) settings → IsConfOf settings conf
+    → before.left ≡ Some capture → SpellsEvents events capture → result ≡ Done
+    → (end : ReplayEnd) × ReportsAll conf (history_of events) end before.written now.written
+
 -- all that `/replay` promises of what is told
 pub record ReplayPromise (before now : Seen) (result : Status) : Type 0 where
   pub runs : RunsReplay before now result
@@ -96,3 +99,5 @@ pub record ReplayPromise (before now : Seen) (result : Status) : Type 0 where
   pub no_partner : IsNoPartnerExact before result
   pub bad_capture : IsBadCaptureExact before result
   pub complete : IsReplayComplete before now result
+  pub done_of : IsReplayDoneOf before now result
+  pub whole : IsReplayWhole before now result

@@ -5,8 +5,8 @@ use Rattle.base_specs.specs.Told.{Took, IsUsedUp}
 use Rattle.edge_traits.specs.Clock.{ClockTold}
 use Rattle.edge_traits.specs.Link.{LinkTold}
 
--- the bytes left of the settings and of the input, the bytes written, what the link and the clock gave and took, the
--- random words given, and the counts of failed calls
+-- the bytes left of the settings and of the input, the bytes written to the output and to the capture, what the link and
+-- the clock gave and took, the random words given, and the counts of failed calls
 pub record Seen : Type 0 where
   pub config : Option (List ℕ)
   pub config_faults : ℕ
@@ -14,10 +14,13 @@ pub record Seen : Type 0 where
   pub read_faults : ℕ
   pub written : Option (List ℕ)
   pub write_faults : ℕ
+  pub capture : Option (List ℕ)
+  pub capture_faults : ℕ
   pub link : Option LinkTold
   pub link_faults : ℕ
   pub clock : Option ClockTold
   pub clock_faults : ℕ
+  pub disk_faults : ℕ
   pub words : Option (List ℕ)
   pub entropy_faults : ℕ
 
@@ -49,6 +52,8 @@ pub record NeverFalls (before now : Seen) : Type 0 where
   pub config : before.config_faults ≤ now.config_faults
   pub read : before.read_faults ≤ now.read_faults
   pub write : before.write_faults ≤ now.write_faults
+  pub capture : before.capture_faults ≤ now.capture_faults
   pub link : before.link_faults ≤ now.link_faults
   pub clock : before.clock_faults ≤ now.clock_faults
+  pub disk : before.disk_faults ≤ now.disk_faults
   pub entropy : before.entropy_faults ≤ now.entropy_faults

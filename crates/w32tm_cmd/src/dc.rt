@@ -10,19 +10,20 @@ use crate::{Outside, Status, Tells};
 use dc_sign::{ServeWhy, serve};
 use edge_io::{Clock, Entropy, Link, Put, Sink, Source};
 use settings_source::settings_from;
+use slot_disk::Disk;
 use std::alloc::Global;
 use w32tm_text::dc_lines;
 
 /// Reads the settings, serves so many turns with their accounts, and writes the closing lines, each in one write.
-pub(crate) fn serve_requests<S: Source, O: Sink, L: Link, C: Clock, E: Entropy>(
+pub(crate) fn serve_requests<S: Source, O: Sink, L: Link, C: Clock, D: Disk, E: Entropy>(
     alloc: Global,
     turns: u32,
-    outside: &mut Outside<S, O, L, C, E>,
+    outside: &mut Outside<S, O, L, C, D, E>,
 ) -> Status
-    ensures dc { let seen = ⟦<Outside<S, O, L, C, E> as Tells>⟧.seen in
+    ensures dc { let seen = ⟦<Outside<S, O, L, C, D, E> as Tells>⟧.seen in
         DcPromise turns (seen outside.old) (seen outside.new) result }
     ensures touches { DcTouches outside.old outside.new result }
-    ensures counts { let seen = ⟦<Outside<S, O, L, C, E> as Tells>⟧.seen in
+    ensures counts { let seen = ⟦<Outside<S, O, L, C, D, E> as Tells>⟧.seen in
         NeverFalls (seen outside.old) (seen outside.new) }
 {
     let settings = match settings_from(alloc, &mut outside.config) {

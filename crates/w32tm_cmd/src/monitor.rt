@@ -10,17 +10,18 @@ use crate::{Outside, Status, Tells};
 use edge_io::{Clock, Entropy, Link, Sink, Source};
 use monitor_run::{MonitorWhy, monitor};
 use settings_source::settings_from;
+use slot_disk::Disk;
 use std::alloc::Global;
 
 /// Reads the settings, and asks the computers of their directory in its order.
-pub(crate) fn ask_computers<S: Source, O: Sink, L: Link, C: Clock, E: Entropy>(
+pub(crate) fn ask_computers<S: Source, O: Sink, L: Link, C: Clock, D: Disk, E: Entropy>(
     alloc: Global,
-    outside: &mut Outside<S, O, L, C, E>,
+    outside: &mut Outside<S, O, L, C, D, E>,
 ) -> Status
-    ensures monitor { let seen = ⟦<Outside<S, O, L, C, E> as Tells>⟧.seen in
+    ensures monitor { let seen = ⟦<Outside<S, O, L, C, D, E> as Tells>⟧.seen in
         MonitorPromise (seen outside.old) (seen outside.new) result }
     ensures touches { MonitorTouches outside.old outside.new result }
-    ensures counts { let seen = ⟦<Outside<S, O, L, C, E> as Tells>⟧.seen in
+    ensures counts { let seen = ⟦<Outside<S, O, L, C, D, E> as Tells>⟧.seen in
         NeverFalls (seen outside.old) (seen outside.new) }
 {
     let settings = match settings_from(alloc, &mut outside.config) {

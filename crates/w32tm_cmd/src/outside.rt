@@ -1,19 +1,24 @@
 //! The devices that a command works with.
 use edge_io::{Clock, Entropy, Link, Sink, Source};
+use slot_disk::Disk;
 
 /// The devices, each under the name of what a command does with it.
 #[derive(Drop)]
-pub struct Outside<S: Source, O: Sink, L: Link, C: Clock, E: Entropy> {
+pub struct Outside<S: Source, O: Sink, L: Link, C: Clock, D: Disk, E: Entropy> {
     /// The settings text.
     pub config: S,
     /// What is read: for `/sign` the request, for `/replay` the capture.
     pub capture_in: S,
-    /// What is written: for `/sign` the reply, else the lines of the command.
+    /// What is printed: for `/sign` the reply, else the lines of the command.
     pub out: O,
+    /// Where the events of `/member` are recorded.
+    pub capture_out: O,
     /// Where datagrams are sent and received.
     pub link: L,
-    /// What the time is.
+    /// The clock that is read and corrected.
     pub clock: C,
+    /// Where counts are reserved before they are sent.
+    pub disk: D,
     /// Where random words come from.
     pub entropy: E,
 }
@@ -21,13 +26,18 @@ pub struct Outside<S: Source, O: Sink, L: Link, C: Clock, E: Entropy> {
 /// All that the devices tell at a moment, and their counts of failed calls. The clauses speak of the
 /// devices through this alone, so each device is told of under a name of its own.
 pub trait Tells {
+    ghost use Rattle.slot_disk.specs.Told.{Told};
     ghost use Rattle.w32tm_cmd.specs.Seen.{Seen};
 
-    /// What is told at a moment.
+    /// What is told at a moment, by all but the disk.
     ghost seen: { Self → Seen };
+
+    /// What the disk tells.
+    ghost disk: { Self → Told };
 }
 
-impl<S: Source, O: Sink, L: Link, C: Clock, E: Entropy> Tells for Outside<S, O, L, C, E> {
+impl<S: Source, O: Sink, L: Link, C: Clock, D: Disk, E: Entropy> Tells
+    for Outside<S, O, L, C, D, E> {
     ghost seen = { λ o. record {
       config = S.left o.config;
       config_faults = S.faults o.config;
@@ -35,11 +45,16 @@ impl<S: Source, O: Sink, L: Link, C: Clock, E: Entropy> Tells for Outside<S, O, 
       read_faults = S.faults o.capture_in;
       written = O.written o.out;
       write_faults = O.faults o.out;
+      capture = O.written o.capture_out;
+      capture_faults = O.faults o.capture_out;
       link = L.told o.link;
       link_faults = L.faults o.link;
       clock = C.told o.clock;
       clock_faults = C.faults o.clock;
+      disk_faults = D.faults o.disk;
       words = E.words o.entropy;
       entropy_faults = E.faults o.entropy;
     } };
+
+    ghost disk = { λ o. D.told o.disk };
 }

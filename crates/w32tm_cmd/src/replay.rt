@@ -11,26 +11,27 @@ use crate::{Outside, Status, Tells};
 use edge_io::{Clock, Entropy, Link, Sink, Source};
 use replay_run::{ReplayWhy, replay};
 use settings_source::settings_from;
+use slot_disk::Disk;
 use std::alloc::Global;
 use w32tm_text::{ConfFault, conf_of};
 
 /// Reads the settings, and steps a new member of theirs through the capture.
-pub(crate) fn replay_capture<S: Source, O: Sink, L: Link, C: Clock, E: Entropy>(
+pub(crate) fn replay_capture<S: Source, O: Sink, L: Link, C: Clock, D: Disk, E: Entropy>(
     alloc: Global,
-    outside: &mut Outside<S, O, L, C, E>,
+    outside: &mut Outside<S, O, L, C, D, E>,
 ) -> Status
-    ensures replay { let seen = ⟦<Outside<S, O, L, C, E> as Tells>⟧.seen in
+    ensures replay { let seen = ⟦<Outside<S, O, L, C, D, E> as Tells>⟧.seen in
         ReplayPromise (seen outside.old) (seen outside.new) result }
-    ensures read_cause { let seen = ⟦<Outside<S, O, L, C, E> as Tells>⟧.seen in
+    ensures read_cause { let seen = ⟦<Outside<S, O, L, C, D, E> as Tells>⟧.seen in
         result ≡ Status.ReadFault
         → Rose (seen outside.old).config_faults (seen outside.new).config_faults
         ⊎ Rose (seen outside.old).read_faults (seen outside.new).read_faults }
     ensures touches { ReplayTouches outside.old outside.new result }
-    ensures config_fault { let seen = ⟦<Outside<S, O, L, C, E> as Tells>⟧.seen in
+    ensures config_fault { let seen = ⟦<Outside<S, O, L, C, D, E> as Tells>⟧.seen in
         result ≡ Status.ReadFault
         → ¬ Rose (seen outside.old).read_faults (seen outside.new).read_faults
         → outside.new ≡ record outside.old { config = outside.new.config } }
-    ensures counts { let seen = ⟦<Outside<S, O, L, C, E> as Tells>⟧.seen in
+    ensures counts { let seen = ⟦<Outside<S, O, L, C, D, E> as Tells>⟧.seen in
         NeverFalls (seen outside.old) (seen outside.new) }
 {
     let settings = match settings_from(alloc, &mut outside.config) {

@@ -9,14 +9,15 @@ use crate::{Outside, Status, Tells};
 use dc_sign::Refusal;
 use edge_io::{Clock, Entropy, Link, Put, Sink, Source};
 use ms_auth::read_packet;
+use slot_disk::Disk;
 use w32tm_text::show_lines;
 
 /// Writes the lines of the message that the bytes spell, each in one write.
-pub(crate) fn show_message<S: Source, O: Sink, L: Link, C: Clock, E: Entropy>(
+pub(crate) fn show_message<S: Source, O: Sink, L: Link, C: Clock, D: Disk, E: Entropy>(
     bytes: &[u8],
-    outside: &mut Outside<S, O, L, C, E>,
+    outside: &mut Outside<S, O, L, C, D, E>,
 ) -> Status
-    ensures show { let seen = ⟦<Outside<S, O, L, C, E> as Tells>⟧.seen in
+    ensures show { let seen = ⟦<Outside<S, O, L, C, D, E> as Tells>⟧.seen in
         Shows bytes.now (seen outside.old) (seen outside.new) result }
 
     // What each answer leaves as it was.

@@ -8,17 +8,18 @@ use crate::{Outside, Status, Tells};
 use dc_sign::{Answer, ServerInfo, answer, two_readings};
 use edge_io::{Clock, DATAGRAM_LEN, Entropy, Filled, Link, Put, Sink, Source, fill_front};
 use key_book::Account;
+use slot_disk::Disk;
 
 /// The most bytes that are read of a request: one more than a datagram holds, so that a longer input is
 /// seen to be longer.
 const INPUT_LEN: usize = DATAGRAM_LEN + 1;
 
 /// Reads the request, then the clock twice, and writes the reply under the account in one write.
-pub(crate) fn sign_request<S: Source, O: Sink, L: Link, C: Clock, E: Entropy>(
+pub(crate) fn sign_request<S: Source, O: Sink, L: Link, C: Clock, D: Disk, E: Entropy>(
     account: &Account,
-    outside: &mut Outside<S, O, L, C, E>,
+    outside: &mut Outside<S, O, L, C, D, E>,
 ) -> Status
-    ensures sign { let seen = ⟦<Outside<S, O, L, C, E> as Tells>⟧.seen in
+    ensures sign { let seen = ⟦<Outside<S, O, L, C, D, E> as Tells>⟧.seen in
         Signs account.now (seen outside.old) (seen outside.new) result }
 
     // What each answer leaves as it was.

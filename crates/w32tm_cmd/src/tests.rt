@@ -1,358 +1,171 @@
-//! Whole runs of the top call over devices in memory: those of `/sign` and `/show`.
-mod dc;
-mod devices;
-mod monitor;
-mod replay;
-mod settings;
-
-use crate::Status;
-use crate::tests::devices::{LATER, NEW_YEAR, STEADY, Script, run};
-use dc_sign::Refusal;
-use edge_io::Reading;
+//! Each command once, over devices in memory. Whole runs, and runs whose devices' calls fail, are in `sign_rows`,
+//! `controller_rows`, `monitor_rows`, `replay_rows`, `member_rows` and `settings_rows`.
+use crate::{Outside, Status, w32tm};
+use edge_io::{ScriptClock, ScriptEntropy, ScriptLink, ScriptSink, ScriptSource};
+use slot_disk::MemoryDisk;
+use std::alloc::Global;
 use std::test::Fail;
 
-const WORD: &str = "/sign:1103:00000000000000000000000000000000";
+// 1 January 2020, in ticks, and a millisecond later.
+const NEW_YEAR: i64 = 132_223_104_000_000_000;
 
-// Bytes of the request that tests change.
-const FIRST: usize = 0;
+const LATER: i64 = 132_223_104_000_010_000;
 
-const RID: usize = 48;
+const SETTINGS: &[u8] = b"Name=WS1\nRole=Member\nRid=1103\n\
+    account 1103 000102030405060708090a0b0c0d0e0f\ncomputer DC1 10.0.0.1:123 S---\n";
 
-const KEY_BITS: usize = 51;
+// A client's plain request: a header alone.
+const REQUEST: [u8; 48] =
+    *b"\xDB\x00\x0A\xE9\0\0\0\0\0\0\0\0\0\0\0\0\0\0\0\0\0\0\0\0\0\0\0\0\0\0\0\0\0\0\0\0\0\0\0\0\0\0\0\x01\
+       \0\0\0\x07";
 
-// A client's request under the account 1103.
-const REQUEST: [u8; 68] = [
-    0xDB, 0x00, 0x0A, 0xE9, 0, 0, 0, 0, 0, 0, 0, 0, 0, 0, 0, 0, 0, 0, 0, 0, 0, 0, 0, 0, 0, 0, 0, 0,
-    0, 0, 0, 0, 0, 0, 0, 0, 0, 0, 0, 0, 0x00, 0x00, 0x00, 0x01, 0x00, 0x00, 0x00, 0x07, 0x4F, 0x04,
-    0x00, 0x00, 0, 0, 0, 0, 0, 0, 0, 0, 0, 0, 0, 0, 0, 0, 0, 0,
-];
+// The plain reply to it, received and sent at those readings.
+const REPLY: [u8; 48] =
+    *b"\x1C\x01\x0A\xE9\0\0\0\0\0\0\0\0LOCL\xE1\xB6\x5F\x80\0\0\0\0\0\0\0\x01\0\0\0\x07\
+       \xE1\xB6\x5F\x80\0\0\0\0\xE1\xB6\x5F\x80\x00\x41\x89\x38";
 
-// The reply to it. The last 16 bytes are the MD5 of the zero key and of the 48 bytes in front of the key
-// identifier, as OpenSSL computes it from their digits: `echo KEY HEADER | xxd -r -p | openssl md5`.
-const REPLY: [u8; 68] = [
-    0x1C, 0x01, 0x0A, 0xE9, 0, 0, 0, 0, 0, 0, 0, 0, 0x4C, 0x4F, 0x43, 0x4C, 0xE1, 0xB6, 0x5F, 0x80,
-    0, 0, 0, 0, 0x00, 0x00, 0x00, 0x01, 0x00, 0x00, 0x00, 0x07, 0xE1, 0xB6, 0x5F, 0x80, 0, 0, 0, 0,
-    0xE1, 0xB6, 0x5F, 0x80, 0x00, 0x41, 0x89, 0x38, 0x4F, 0x04, 0x00, 0x00, 0xA1, 0xED, 0x97, 0xBF,
-    0x99, 0x6D, 0x9C, 0xD9, 0x4E, 0x95, 0xA2, 0xAE, 0x0F, 0x55, 0x9A, 0x86,
-];
+/// The devices of a run.
+type Devices = Outside<
+    ScriptSource,
+    ScriptSink,
+    ScriptLink,
+    ScriptClock,
+    MemoryDisk,
+    ScriptEntropy,
+>;
 
-#[test]
-fn signs_the_sample_request(rt: HostRuntime) -> Result<(), Fail> {
-    for cut in 0..68 {
-        let script = Script {
-            pieces: &[cut, 68],
-            ..STEADY
-        };
-        let ran = run(rt.alloc(), &[WORD], &REQUEST, &script)?;
-        assert_eq!(rt; ran.status, Status::Done, "cut at {cut}");
-        assert_eq!(rt; ran.written.as_slice(), REPLY.as_slice(), "cut at {cut}");
-        assert_eq!(rt; ran.next, Reading::Failed, "cut at {cut}");
-    }
-    Ok(())
+fn source_of(alloc: Global, bytes: &[u8]) -> Result<ScriptSource, Fail> {
+    let bytes = bytes.to_vec(alloc)?;
+    let source = ScriptSource::new(alloc, bytes, Vec::new(alloc), Vec::new(alloc), 0)?;
+    Ok(source)
 }
 
-/// Words, what stands behind the sample's header in a request, how many zeros behind that, and what stands behind the
-/// sample's header in the reply.
-type Answered = (&'static str, &'static [u8], usize, &'static [u8]);
-
-// A header alone; the previous key, three times; and extended requests, under the current and the previous key and of
-// the greatest RID. The checksums of the short ones are the MD5 of key and header: those of `REPLY` under the key of
-// zeros, and under the key 11..11 what `echo KEY HEADER | xxd -r -p | openssl md5` gives. Those of the extended ones are
-// OpenSSL's: `echo HEADER | xxd -r -p | openssl dgst -sha512 -mac HMAC -macopt hexkey:DERIVED`, where DERIVED is what
-// `openssl kdf -keylen 64 -kdfopt mac:HMAC -kdfopt digest:SHA512 -kdfopt mode:counter -kdfopt hexkey:KEY -kdfopt
-// hexsalt:736e74702d6d73 -kdfopt hexinfo:RID KBKDF` prints, without its colons.
-const ANSWERED: [Answered; 7] = [
-    ("/sign:1103:00000000000000000000000000000000", b"", 0, b""),
-    (
-        "/sign:1103:a5a5a5a5a5a5a5a5a5a5a5a5a5a5a5a5:00000000000000000000000000000000",
-        b"\x4F\x04\x00\x80",
-        16,
-        b"\x4F\x04\x00\x80\xA1\xED\x97\xBF\x99\x6D\x9C\xD9\x4E\x95\xA2\xAE\x0F\x55\x9A\x86",
-    ),
-    (
-        "/sign:1103:00000000000000000000000000000000:11111111111111111111111111111111",
-        b"\x4F\x04\x00\x80",
-        16,
-        b"\x4F\x04\x00\x80\xC4\xD5\x60\x15\x42\xB3\x48\x39\xA4\xE3\x30\x30\x83\x09\x09\xE1",
-    ),
-    (
-        "/sign:2147483647:a5a5a5a5a5a5a5a5a5a5a5a5a5a5a5a5:00000000000000000000000000000000",
-        b"\xFF\xFF\xFF\xFF",
-        16,
-        b"\xFF\xFF\xFF\xFF\xA1\xED\x97\xBF\x99\x6D\x9C\xD9\x4E\x95\xA2\xAE\x0F\x55\x9A\x86",
-    ),
-    (
-        "/sign:1103:00000000000000000000000000000000",
-        b"\x4F\x04\x00\x00\x00\x00\x01\x00",
-        64,
-        b"\x4F\x04\x00\x00\x00\x00\x01\x01\x80\xE9\x3B\x24\x1F\xE2\x60\xF7\xE0\x58\xFC\xFE\
-          \x8B\x0F\xE9\xBE\x27\x7C\xAE\xE4\xB5\xC6\xFE\xE0\xC0\x2F\xA5\x42\x06\xEE\x02\x27\
-          \xC6\x88\x3B\x83\x2B\x60\x54\x3B\x4E\x20\x86\x19\x4D\x69\x74\xAE\xF9\x0A\xC3\x78\
-          \x1C\x3C\xFC\x62\x7C\x68\x65\x58\xC6\x56\xE5\x37",
-    ),
-    (
-        "/sign:1103:00000000000000000000000000000000:a5a5a5a5a5a5a5a5a5a5a5a5a5a5a5a5",
-        b"\x4F\x04\x00\x00\x00\x01\x01\x00",
-        64,
-        b"\x4F\x04\x00\x00\x00\x01\x01\x01\x22\x95\x86\x8E\x6F\xC6\xC5\x14\x68\xA3\xF5\xCA\
-          \xFA\xBD\x89\xE8\x74\xB0\x76\xBD\x44\x2C\x73\xE2\x09\xC2\x9F\xD9\xD0\x70\xBF\x78\
-          \x57\x3F\x9D\xE8\xF1\x48\xE4\xB5\xB8\x51\x17\xC9\xCF\x51\x54\x6E\xF4\x4B\xDC\x8A\
-          \x11\x65\xA1\xDF\xE3\x16\x74\xD4\x26\x0D\xB0\x3E",
-    ),
-    (
-        "/sign:4294967295:00000000000000000000000000000000",
-        b"\xFF\xFF\xFF\xFF\x00\x00\x01\x00",
-        64,
-        b"\xFF\xFF\xFF\xFF\x00\x00\x01\x01\xD6\x56\xB6\xF9\x1B\x63\x38\x6F\xC1\x99\x5C\xBB\
-          \x53\x01\x8F\x7D\x96\x36\x74\x64\xBB\x3C\x05\x0E\xFA\xBF\x4C\x14\x1C\x0C\xAF\x37\
-          \xB1\xA7\x2B\xBD\xD3\xD4\x2C\x49\x40\x49\x62\x57\x78\x91\x22\x7C\x3A\x13\xF3\x2B\
-          \x8E\xD0\xAD\x95\xC6\xF0\x66\x75\xE6\x3D\xB6\x85",
-    ),
-];
-
-#[test]
-fn answers_each_kind_under_both_keys(rt: HostRuntime) -> Result<(), Fail> {
-    let alloc = rt.alloc();
-    for (word, behind, zeros, reply) in ANSWERED {
-        let mut request = REQUEST[..48].to_vec(alloc)?;
-        request.extend_from_slice(behind)?;
-        for _ in 0..zeros {
-            request.push(0)?;
-        }
-        let ran = run(alloc, &[word], request.as_slice(), &STEADY)?;
-        assert_eq!(rt; ran.status, Status::Done, "{word}");
-        assert_eq!(rt; ran.written.len(), request.len(), "{word}");
-        assert!(rt; ran.written.starts_with(&REPLY[..48]), "{word}");
-        assert!(rt; ran.written.ends_with(reply), "{word}");
-    }
-    Ok(())
+/// The source of the settings, and that of the input.
+fn sources_of(alloc: Global, input: &[u8]) -> Result<(ScriptSource, ScriptSource), Fail> {
+    let config = source_of(alloc, SETTINGS)?;
+    let capture_in = source_of(alloc, input)?;
+    Ok((config, capture_in))
 }
 
-#[test]
-fn refusals_of_the_controller(rt: HostRuntime) -> Result<(), Fail> {
-    let alloc = rt.alloc();
-    for (at, value, reason) in [
-        (FIRST, 0xC3, Refusal::BadVersion),
-        (FIRST, 0xDC, Refusal::BadMode),
-        (RID, 0x50, Refusal::UnknownAccount),
-        (KEY_BITS, 0x80, Refusal::NoOldKey),
-    ] {
-        let mut request = REQUEST;
-        request[at] = value;
-        let ran = run(alloc, &[WORD], &request, &STEADY)?;
-        assert_eq!(rt; ran.status, Status::BadRequest { reason });
-        assert!(rt; ran.written.is_empty());
-    }
-    // An extended request for the previous key, which the account doesn't have.
-    let mut request = REQUEST[..48].to_vec(alloc)?;
-    request.extend_from_slice(b"\x4F\x04\x00\x00\x00\x01\x01\x00")?;
-    for _ in 0..64 {
-        request.push(0)?;
-    }
-    let ran = run(alloc, &[WORD], request.as_slice(), &STEADY)?;
-    let reason = Refusal::NoOldKey;
-    assert_eq!(rt; ran.status, Status::BadRequest { reason });
-    assert!(rt; ran.written.is_empty());
-    for (len, left) in [(0, 0), (67, 0), (69, 0), (72, 0), (257, 0), (300, 43)] {
-        let request = vec![in alloc; 0xDB; len]?;
-        let ran = run(alloc, &[WORD], &request, &STEADY)?;
-        let reason = Refusal::BadLength;
-        assert_eq!(rt; ran.status, Status::BadRequest { reason }, "{len} bytes");
-        assert_eq!(rt; ran.left, left, "{len} bytes");
-        assert!(rt; ran.written.is_empty(), "{len} bytes");
-    }
-    Ok(())
+fn sink_of(alloc: Global) -> Result<ScriptSink, Fail> {
+    let sink = ScriptSink::new(alloc, Vec::new(alloc), 1000)?;
+    Ok(sink)
 }
 
-// `/show` of the sample request, and its lines.
-const SHOW: &str =
-    "/show:db000ae90000000000000000000000000000000000000000000000000000000000000000000000000000\
-                    0001000000074f04000000000000000000000000000000000000";
+fn clock_of(alloc: Global) -> Result<ScriptClock, Fail> {
+    let mut readings = Vec::new(alloc);
+    readings.push(NEW_YEAR)?;
+    readings.push(LATER)?;
+    let clock = ScriptClock::new(alloc, readings, Vec::new(alloc), 10)?;
+    Ok(clock)
+}
 
-const LINES: [&str; 5] = [
-    "leap=3 version=3 mode=3 stratum=0 poll=10 precision=-23\n",
-    "rootdelay=0 rootdispersion=0 refid=00000000\n",
-    "reference=0000000000000000 originate=0000000000000000\n",
-    "receive=0000000000000000 transmit=0000000100000007\n",
-    "tail=short keyid=0000044f checksum=00000000000000000000000000000000\n",
+fn disk_of(alloc: Global) -> Result<MemoryDisk, Fail> {
+    match MemoryDisk::new(alloc, [0; 256], Vec::new(alloc), 10) {
+        Ok(disk) => Ok(disk),
+        Err(_) => Err(Fail::from("no memory")),
+    }
+}
+
+fn entropy_of(alloc: Global) -> Result<ScriptEntropy, Fail> {
+    let words = [1, 7].to_vec(alloc)?;
+    let entropy = ScriptEntropy::new(alloc, words, Vec::new(alloc), 0)?;
+    Ok(entropy)
+}
+
+/// Devices of which no call fails, and over whose link nothing comes.
+fn devices_of(alloc: Global, input: &[u8]) -> Result<Devices, Fail> {
+    let (config, capture_in) = sources_of(alloc, input)?;
+    let out = sink_of(alloc)?;
+    let capture_out = sink_of(alloc)?;
+    let link = ScriptLink::new(alloc, Vec::new(alloc), Vec::new(alloc), 10)?;
+    let clock = clock_of(alloc)?;
+    let disk = disk_of(alloc)?;
+    let entropy = entropy_of(alloc)?;
+    Ok(Outside {
+        config,
+        capture_in,
+        out,
+        capture_out,
+        link,
+        clock,
+        disk,
+        entropy,
+    })
+}
+
+fn words_of(alloc: Global, texts: &[&str]) -> Result<Vec<String>, Fail> {
+    let mut words = Vec::new(alloc);
+    for text in texts {
+        words.push(String::from_str(alloc, text)?)?;
+    }
+    Ok(words)
+}
+
+/// How these words end, and the devices behind them.
+fn run(alloc: Global, texts: &[&str], input: &[u8]) -> Result<(Status, Devices), Fail> {
+    let words = words_of(alloc, texts)?;
+    let mut devices = devices_of(alloc, input)?;
+    let status = w32tm(alloc, &words, &mut devices);
+    Ok((status, devices))
+}
+
+/// Words, the input, and what is written.
+type Row = (&'static [&'static str], &'static [u8], &'static [u8]);
+
+// Nothing comes over the link.
+const ROWS: &[Row] = &[
+    (
+        &["/sign:1103:00000000000000000000000000000000"],
+        &REQUEST,
+        &REPLY,
+    ),
+    (
+        &[
+            "/show:db000ae9000000000000000000000000000000000000000000000000000000000000000000000000\
+0000000100000007",
+        ],
+        b"",
+        b"leap=3 version=3 mode=3 stratum=0 poll=10 precision=-23\n\
+rootdelay=0 rootdispersion=0 refid=00000000\n\
+reference=0000000000000000 originate=0000000000000000\n\
+receive=0000000000000000 transmit=0000000100000007\n\
+tail=plain\n",
+    ),
+    (
+        &["/dc:1", "/config:c"],
+        b"",
+        b"signed=0 plain=0\n\
+refused BadLength=0 BadVersion=0 BadMode=0 UnknownAccount=0 NoOldKey=0\n\
+link quiet=1 lost=0 unsent=0\n",
+    ),
+    (
+        &["/monitor", "/config:c"],
+        b"",
+        b"DC1 error=NoAnswer\ntotal computers=1 answered=0\n",
+    ),
+    (
+        &["/replay", "/config:c"],
+        b"",
+        b"total sent=0 moved=0 refused=0\n",
+    ),
+    (
+        &["/member:1", "/config:c", "/keeper:k"],
+        b"",
+        b"life mark=0\nsend n=1 to=10.0.0.1:123\n\
+total sent=1 moved=0 refused=0\nlink quiet=1 lost=0\n",
+    ),
 ];
 
 #[test]
-fn shows_the_sample_request(rt: HostRuntime) -> Result<(), Fail> {
-    let mut lines = Vec::new(rt.alloc());
-    for line in LINES {
-        lines.extend_from_slice(line.as_bytes())?;
+fn each_command_once(rt: HostRuntime) -> Result<(), Fail> {
+    for (words, input, text) in ROWS {
+        let (status, devices) = run(rt.alloc(), words, input)?;
+        assert_eq!(rt;
+            (status, devices.out.bytes()),
+            (Status::Done, *text),
+            "{words:?}"
+        );
     }
-    let ran = run(rt.alloc(), &[SHOW], &REQUEST, &STEADY)?;
-    assert_eq!(rt; ran.status, Status::Done);
-    assert_eq!(rt; ran.written.as_slice(), lines.as_slice());
-    assert_eq!(rt; ran.left, 68);
-    assert_eq!(rt; ran.next, Reading::At(NEW_YEAR));
-    Ok(())
-}
-
-// The lines before the one whose write fails stay, also where that one has no room.
-#[test]
-fn shows_up_to_a_failed_write(rt: HostRuntime) -> Result<(), Fail> {
-    let mut due = Vec::new(rt.alloc());
-    for (number, line) in LINES.iter().enumerate() {
-        let failing = Script {
-            failing_writes: &[number as u64 + 1],
-            ..STEADY
-        };
-        let short = Script {
-            room: due.len().saturating_add(line.len() / 2),
-            ..STEADY
-        };
-        for script in [failing, short] {
-            let ran = run(rt.alloc(), &[SHOW], &REQUEST, &script)?;
-            assert_eq!(rt; ran.status, Status::WriteFault);
-            assert_eq!(rt; ran.written.as_slice(), due.as_slice());
-        }
-        due.extend_from_slice(line.as_bytes())?;
-    }
-    Ok(())
-}
-
-#[test]
-fn other_lengths_are_bad(rt: HostRuntime) -> Result<(), Fail> {
-    let alloc = rt.alloc();
-    for len in [0, 1, 47, 49, 67, 69, 72, 119, 121, 256] {
-        let mut word = String::from_str(alloc, "/show:")?;
-        for _ in 0..len {
-            word.push_str("00")?;
-        }
-        let ran = run(alloc, &[word.as_str()], &REQUEST, &STEADY)?;
-        let reason = Refusal::BadLength;
-        assert_eq!(rt; ran.status, Status::BadRequest { reason }, "{len} bytes");
-        assert!(rt; ran.written.is_empty(), "{len} bytes");
-        assert_eq!(rt; ran.left, 68, "{len} bytes");
-        assert_eq!(rt; ran.next, Reading::At(NEW_YEAR), "{len} bytes");
-    }
-    Ok(())
-}
-
-// Words that spell no command.
-const BAD_WORDS: [&[&str]; 12] = [
-    &[],
-    &["/show:0"],
-    &["/sign:01103:00000000000000000000000000000000"],
-    &["/sign:1103:00000000000000000000000000000000:"],
-    &[WORD, ""],
-    &[WORD, WORD],
-    &["/dc:3"],
-    &["/dc:0", "/config:c"],
-    &["/dc:1000001", "/config:c"],
-    &["/monitor"],
-    &["/replay"],
-    &["/replay", "/config:c", "/port:123"],
-];
-
-/// The calls that fail, of reads, of readings and of writes, and the room of the output; then the status, the
-/// bytes left on the input, and what the clock gives next.
-type Row = (
-    &'static [u64],
-    &'static [u64],
-    &'static [u64],
-    usize,
-    Status,
-    usize,
-    Reading,
-);
-
-// The input comes as 30 bytes, 38 bytes and the end.
-const FAULTS: [Row; 7] = [
-    (
-        &[1],
-        &[],
-        &[],
-        1000,
-        Status::ReadFault,
-        68,
-        Reading::At(NEW_YEAR),
-    ),
-    (
-        &[2],
-        &[],
-        &[],
-        1000,
-        Status::ReadFault,
-        38,
-        Reading::At(NEW_YEAR),
-    ),
-    (
-        &[3],
-        &[],
-        &[],
-        1000,
-        Status::ReadFault,
-        0,
-        Reading::At(NEW_YEAR),
-    ),
-    (
-        &[],
-        &[1],
-        &[],
-        1000,
-        Status::ClockFault,
-        0,
-        Reading::At(NEW_YEAR),
-    ),
-    (
-        &[],
-        &[2],
-        &[],
-        1000,
-        Status::ClockFault,
-        0,
-        Reading::At(LATER),
-    ),
-    (&[], &[], &[1], 1000, Status::WriteFault, 0, Reading::Failed),
-    (&[], &[], &[], 67, Status::WriteFault, 0, Reading::Failed),
-];
-
-#[test]
-fn bad_words_and_first_faults(rt: HostRuntime) -> Result<(), Fail> {
-    for words in BAD_WORDS {
-        let ran = run(rt.alloc(), words, &REQUEST, &STEADY)?;
-        assert_eq!(rt; ran.status, Status::BadWords, "{words:?}");
-        assert!(rt; ran.written.is_empty(), "{words:?}");
-        assert_eq!(rt; ran.left, 68, "{words:?}");
-        assert_eq!(rt; ran.next, Reading::At(NEW_YEAR), "{words:?}");
-    }
-    for (reads, readings, writes, room, status, left, next) in FAULTS {
-        let script = Script {
-            failing_reads: reads,
-            failing_readings: readings,
-            failing_writes: writes,
-            room,
-            ..STEADY
-        };
-        let ran = run(rt.alloc(), &[WORD], &REQUEST, &script)?;
-        assert_eq!(rt; ran.status, status);
-        assert!(rt; ran.written.is_empty(), "{status:?}");
-        assert_eq!(rt; ran.left, left, "{status:?}");
-        assert_eq!(rt; ran.next, next, "{status:?}");
-    }
-    Ok(())
-}
-
-// The clock is read before the request is looked at, and nothing is written for a refused one.
-#[test]
-fn refused_requests_and_faults(rt: HostRuntime) -> Result<(), Fail> {
-    let script = Script {
-        failing_readings: &[2],
-        failing_writes: &[1],
-        ..STEADY
-    };
-    let ran = run(rt.alloc(), &[WORD], &[], &script)?;
-    assert_eq!(rt; ran.status, Status::ClockFault);
-    let script = Script {
-        failing_writes: &[1],
-        ..STEADY
-    };
-    let ran = run(rt.alloc(), &[WORD], &[], &script)?;
-    let reason = Refusal::BadLength;
-    assert_eq!(rt; ran.status, Status::BadRequest { reason });
     Ok(())
 }

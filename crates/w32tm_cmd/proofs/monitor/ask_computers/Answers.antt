@@ -14,8 +14,7 @@ returns-in-Done-clause-monitor g c = promises _ _ _ (record {
   settings = c.in-Ok.settings;
   configured = c.in-Ok.ensures.reads;
   monitors = rw c.in-Done.is at c.monitor-why.ensures.monitors;
-  input = refl;
-  no_read_fault = refl;
+  others = refl;
 }) (record { write = λ is. cc is; clock = λ is. cc is; entropy = λ is. cc is })
 
 pub returns-in-ClockFault-clause-monitor : goal.returns-in-ClockFault-clause-monitor
@@ -23,8 +22,7 @@ returns-in-ClockFault-clause-monitor g c = promises _ _ _ (record {
   settings = c.in-Ok.settings;
   configured = c.in-Ok.ensures.reads;
   monitors = rw c.in-ClockFault.is at c.monitor-why.ensures.monitors;
-  input = refl;
-  no_read_fault = refl;
+  others = refl;
 }) (record { write = λ is. cc is; clock = λ is. c.monitor-why.ensures.clock_cause c.in-ClockFault.is; entropy = λ is. cc is })
 
 pub returns-in-EntropyFault-clause-monitor : goal.returns-in-EntropyFault-clause-monitor
@@ -32,8 +30,7 @@ returns-in-EntropyFault-clause-monitor g c = promises _ _ _ (record {
   settings = c.in-Ok.settings;
   configured = c.in-Ok.ensures.reads;
   monitors = rw c.in-EntropyFault.is at c.monitor-why.ensures.monitors;
-  input = refl;
-  no_read_fault = refl;
+  others = refl;
 }) (record { write = λ is. cc is; clock = λ is. cc is; entropy = λ is. c.monitor-why.ensures.entropy_cause c.in-EntropyFault.is })
 
 pub returns-clause-monitor : goal.returns-clause-monitor
@@ -41,6 +38,5 @@ returns-clause-monitor g c = promises _ _ _ (record {
   settings = c.in-Ok.settings;
   configured = c.in-Ok.ensures.reads;
   monitors = rw c.in-WriteFault.is at c.monitor-why.ensures.monitors;
-  input = refl;
-  no_read_fault = refl;
+  others = refl;
 }) (record { write = λ is. c.monitor-why.ensures.write_cause c.in-WriteFault.is; clock = λ is. cc is; entropy = λ is. cc is })

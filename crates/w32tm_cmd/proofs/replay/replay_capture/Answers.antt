@@ -39,6 +39,7 @@ returns-in-Done-clause-replay g c = judged _ _ why.Done (record {
   one = λ other is. c.in-Ok-conf_of.ensures.one _ other c.in-Ok-conf_of.ensures.answer is;
   exact = c.replay.ensures.exact;
   complete = c.replay.ensures.complete;
+  whole = c.replay.ensures.whole;
   read_cause = c.replay.ensures.read_cause;
   write_cause = c.replay.ensures.write_cause;
 })
@@ -58,6 +59,7 @@ returns-in-BadCapture-clause-replay g c = judged _ _ (why.BadCapture c.in-BadCap
   one = λ other is. c.in-Ok-conf_of.ensures.one _ other c.in-Ok-conf_of.ensures.answer is;
   exact = c.replay.ensures.exact;
   complete = c.replay.ensures.complete;
+  whole = c.replay.ensures.whole;
   read_cause = c.replay.ensures.read_cause;
   write_cause = c.replay.ensures.write_cause;
 })
@@ -77,6 +79,7 @@ returns-in-ReadFault-clause-replay g c = judged _ _ why.ReadFault (record {
   one = λ other is. c.in-Ok-conf_of.ensures.one _ other c.in-Ok-conf_of.ensures.answer is;
   exact = c.replay.ensures.exact;
   complete = c.replay.ensures.complete;
+  whole = c.replay.ensures.whole;
   read_cause = c.replay.ensures.read_cause;
   write_cause = c.replay.ensures.write_cause;
 })
@@ -96,6 +99,7 @@ returns-clause-replay g c = judged _ _ why.WriteFault (record {
   one = λ other is. c.in-Ok-conf_of.ensures.one _ other c.in-Ok-conf_of.ensures.answer is;
   exact = c.replay.ensures.exact;
   complete = c.replay.ensures.complete;
+  whole = c.replay.ensures.whole;
   read_cause = c.replay.ensures.read_cause;
   write_cause = c.replay.ensures.write_cause;
 })

@@ -1,5 +1,5 @@
 use Rattle.std.proofs.Common.{◌≡◌, inl, refl}
-use Rattle.w32tm_text.specs.declared.words.Action.TheVariants.{Sign, Show, Dc, Monitor, Replay}
+use Rattle.w32tm_text.specs.declared.words.Action.TheVariants.{Sign, Show, Dc, Member, Monitor, Replay}
 use Rattle.w32tm_cmd.proofs.Commands.{is_read, same_action}
 use Rattle.w32tm_cmd.proofs.Showing.{refused_length, length_refused}
 use Rattle.w32tm_cmd.proofs.Signing.{decides_by, completes, completes_refused}
@@ -47,6 +47,12 @@ returns-in-Err-clause-dc g c turns is_dc = absurd (is_read (Dc turns) _ _ is_dc 
 pub returns-in-Err-clause-dc_touches : goal.returns-in-Err-clause-dc_touches
 returns-in-Err-clause-dc_touches g c turns is_dc = absurd (is_read (Dc turns) _ _ is_dc c.in-Err.ensures.found)
 
+pub returns-in-Err-clause-member : goal.returns-in-Err-clause-member
+returns-in-Err-clause-member g c turns is_member = absurd (is_read (Member turns) _ _ is_member c.in-Err.ensures.found)
+
+pub returns-in-Err-clause-member_touches : goal.returns-in-Err-clause-member_touches
+returns-in-Err-clause-member_touches g c turns is_member = absurd (is_read (Member turns) _ _ is_member c.in-Err.ensures.found)
+
 pub returns-in-Err-clause-monitor : goal.returns-in-Err-clause-monitor
 returns-in-Err-clause-monitor g c is_monitor = absurd (is_read Monitor _ _ is_monitor c.in-Err.ensures.found)
 
@@ -92,6 +98,13 @@ pub returns-in-Show-clause-show_bad_length : goal.returns-in-Show-clause-show_ba
 returns-in-Show-clause-show_bad_length g c bytes is_show =
     let shows = returns-in-Show-clause-show g c bytes is_show in
     (refused_length bytes _ _ c.show_message.result shows, length_refused bytes _ _ c.show_message.result shows)
+
+-- `/member` for the turns of the words
+pub returns-in-Member-clause-member : goal.returns-in-Member-clause-member
+returns-in-Member-clause-member g c turns is_member =
+    let action = same_action (Member turns) _ c.in-Ok.command is_member c.in-Ok.ensures.found in
+    let same : c.in-Member.turns ≡ turns = cc (action, c.in-Member.is) in
+    rw same at c.keep_clock.ensures.member
 
 -- `/dc` for the turns of the words
 pub returns-in-Dc-clause-dc : goal.returns-in-Dc-clause-dc

@@ -1,4 +1,4 @@
-use Rattle.std.proofs.Common.{◌≡◌, ◌<◌, ℕ, List, length, take, rules, subst, sym}
+use Rattle.std.proofs.Common.{◌≡◌, ◌<◌, ℕ, List, length, take, rules, refl, subst, sym}
 use Rattle.std.specs.Int.{w64}
 use Rattle.std.proofs.lemmas.Int.{to_z-of_z}
 use Rattle.base_specs.specs.Told.{Added}
@@ -43,4 +43,21 @@ returns-in-Failed-clause-sign g c =
           (rw received at c.local.ensures.local) (rw (received, sent) at c.answer.ensures.answers) c.in-Signed.is;
       bytes = subst (λ (l : List ℕ). Added (g.O.Sink.written c.args.outside.now.out) (g.O.Sink.written c.write.new.self) (take front.0 l)) c.as_slice.ensures.bytes front.2;
       cause = c.in-Failed.ensures.cause;
+    }
+
+pub returns-in-Refused-clause-sign : goal.returns-in-Refused-clause-sign
+returns-in-Refused-clause-sign g c =
+    let buf = c.fill_front.new.buf in
+    let size : length buf ≡ 257 = search rules in
+    record {
+      input = take c.in-Bytes.count buf;
+      t2 = c.in-Some.t2;
+      t3 = c.in-Some.t3;
+      takes = record {
+        read = reads_input request_limit _ _ buf c.in-Bytes.count size c.in-Bytes.ensures.bytes c.in-Bytes.ensures.cause;
+        readings = c.in-Some.ensures.given;
+        no_clock_fault = c.in-Some.ensures.no_fault;
+      };
+      refused = c.in-Refused.ensures.answers;
+      out = record { bytes = refl; no_fault = refl };
     }

@@ -1,8 +1,10 @@
 //! Runs of `/monitor`.
-use crate::Status;
-use crate::tests::devices::{Came, Device, NEW_YEAR, STEADY, Script, expect_send, failing, run};
-use edge_io::{Addr, Drawn, Link, Put, Reading};
+use command_scripts::{Came, Device, NEW_YEAR, Ran, STEADY, Script, run};
+use edge_io::{Addr, Drawn, Link, Put, Reading, Tried};
+use std::alloc::Global;
+use std::process::Abort;
 use std::test::Fail;
+use w32tm_cmd::Status;
 
 const WORDS: &[&str] = &["/monitor", "/config:c"];
 
@@ -47,26 +49,37 @@ const TWO: Script<'static> = Script {
     ..STEADY
 };
 
-#[test]
-fn monitor_of_two(rt: HostRuntime) -> Result<(), Fail> {
-    let ran = run(rt.alloc(), WORDS, b"input", &TWO)?;
-    assert_eq!(rt; ran.status, Status::Done);
-    assert_eq!(rt; ran.written.as_slice(), LINES);
+/// The send went to this address, with these bytes and this answer.
+fn expect_send(rt: &impl Abort, tried: &Tried, to: Addr, bytes: &[u8], put: Put) {
+    assert_eq!(rt;
+        (tried.to, tried.bytes.as_slice(), tried.put),
+        (to, bytes, put)
+    );
+}
+
+// Each computer gets a request of its own.
+fn expect_requests(rt: &impl Abort, ran: &Ran) {
     let mut second = REQUEST;
     second[43] = 2;
     second[47] = 8;
-    match ran.link.sends() {
+    match ran.sends() {
         [one, other] => {
-            expect_send(&rt, one, DC1, &REQUEST, Put::Done);
-            expect_send(&rt, other, DC2, &second, Put::Done);
+            expect_send(rt, one, DC1, &REQUEST, Put::Done);
+            expect_send(rt, other, DC2, &second, Put::Done);
         }
         _ => assert!(rt; false),
     }
-    assert_eq!(rt; ran.config_left, 0);
-    assert_eq!(rt; ran.left, 5);
-    assert_eq!(rt; ran.next, Reading::At(NEW_YEAR));
-    assert_eq!(rt; ran.drawn, Drawn::Word(3));
-    assert_eq!(rt; ran.waits, Some(4));
+}
+
+#[test]
+fn monitor_of_two(rt: HostRuntime) -> Result<(), Fail> {
+    let ran = run(rt.alloc(), WORDS, b"input", &TWO)?;
+    assert_eq!(rt; (ran.status, ran.written()), (Status::Done, LINES));
+    expect_requests(&rt, &ran);
+    assert_eq!(rt;
+        (ran.config_left, ran.left, ran.next, ran.drawn, ran.waits),
+        (0, 5, Reading::At(NEW_YEAR), Drawn::Word(3), Some(4))
+    );
     Ok(())
 }
 
@@ -74,20 +87,18 @@ fn monitor_of_two(rt: HostRuntime) -> Result<(), Fail> {
 #[test]
 fn monitor_of_none(rt: HostRuntime) -> Result<(), Fail> {
     let script = Script {
-        settings: b"Name=DC1\nRole=Controller\nRid=1103\n\
-            account 1103 000102030405060708090a0b0c0d0e0f\n",
+        settings: &SETTINGS[..80],
         ..TWO
     };
     let ran = run(rt.alloc(), WORDS, b"input", &script)?;
-    assert_eq!(rt; ran.status, Status::Done);
     assert_eq!(rt;
-        ran.written.as_slice(),
-        b"total computers=0 answered=0\n".as_slice()
+        (ran.status, ran.written()),
+        (Status::Done, b"total computers=0 answered=0\n".as_slice())
     );
-    assert!(rt; ran.link.sends().is_empty());
-    assert_eq!(rt; ran.next, Reading::At(NEW_YEAR));
-    assert_eq!(rt; ran.drawn, Drawn::Word(1));
-    assert_eq!(rt; ran.waits, Some(48));
+    assert_eq!(rt;
+        (ran.sends().len(), ran.next, ran.drawn, ran.waits),
+        (0, Reading::At(NEW_YEAR), Drawn::Word(1), Some(48))
+    );
     Ok(())
 }
 
@@ -96,7 +107,7 @@ fn monitor_of_none(rt: HostRuntime) -> Result<(), Fail> {
 type Row = (Device, u64, Status, usize, usize, Drawn);
 
 // A fourth reading, a fifth word and a fourth write aren't asked for, and neither is the input.
-const FAULTS: [Row; 17] = [
+const FAULTS: &[Row] = &[
     (Device::Config, 1, Status::ReadFault, 0, 0, Drawn::Word(1)),
     (Device::Config, 2, Status::ReadFault, 0, 0, Drawn::Word(1)),
     (Device::Config, 3, Status::ReadFault, 0, 0, Drawn::Word(1)),
@@ -144,42 +155,67 @@ const FAULTS: [Row; 17] = [
     (Device::Input, 1, Status::Done, 2, 92, Drawn::Word(3)),
 ];
 
+/// The run over two computers, where this call fails.
+fn run_failing(alloc: Global, device: Device, call: u64) -> Result<Ran, Fail> {
+    let failing = [(device, call)];
+    let script = Script {
+        failing: &failing,
+        ..TWO
+    };
+    run(alloc, WORDS, b"input", &script)
+}
+
+fn expect_row(rt: &impl Abort, row: &Row, ran: &Ran) {
+    let (device, call, status, sends, len, drawn) = *row;
+    assert_eq!(rt;
+        (
+            ran.status,
+            ran.sends().len(),
+            Some(ran.written()),
+            ran.drawn
+        ),
+        (status, sends, LINES.get(..len), drawn),
+        "{device:?} {call}"
+    );
+}
+
 #[test]
 fn faults_of_a_monitor(rt: HostRuntime) -> Result<(), Fail> {
-    for (device, call, status, sends, len, drawn) in FAULTS {
-        let calls = [call];
-        let script = failing(TWO, device, &calls);
-        let ran = run(rt.alloc(), WORDS, b"input", &script)?;
-        assert_eq!(rt; ran.status, status, "{device:?} {call}");
-        assert_eq!(rt; ran.link.sends().len(), sends, "{device:?} {call}");
-        assert_eq!(rt; ran.written.len(), len, "{device:?} {call}");
-        assert!(rt; LINES.starts_with(&ran.written), "{device:?} {call}");
-        assert_eq!(rt; ran.drawn, drawn, "{device:?} {call}");
+    for row in FAULTS {
+        let (device, call, ..) = *row;
+        let ran = run_failing(rt.alloc(), device, call)?;
+        expect_row(&rt, row, &ran);
     }
     Ok(())
+}
+
+/// The lines where this call of the link fails.
+const LINK_LINES: &[(u64, &[u8])] = &[
+    (1, LINES),
+    (
+        2,
+        b"DC1 error=NoAnswer\nDC2 error=BadSource\ntotal computers=2 answered=0\n",
+    ),
+    (3, LINES),
+    (4, LINES),
+    (5, LINES),
+];
+
+fn expect_link_lines(rt: &impl Abort, call: u64, lines: &[u8], ran: &Ran) {
+    assert_eq!(rt;
+        (ran.status, ran.sends().len(), ran.written()),
+        (Status::Done, 2, lines),
+        "{call}"
+    );
 }
 
 // The link's calls are a send and a receive for each computer. A failed send is no end and no word; a failed receive is
 // no answer, and the datagram comes for the next computer.
 #[test]
 fn failed_calls_of_the_link(rt: HostRuntime) -> Result<(), Fail> {
-    let cases: [(u64, &[u8]); 5] = [
-        (1, LINES),
-        (
-            2,
-            b"DC1 error=NoAnswer\nDC2 error=BadSource\ntotal computers=2 answered=0\n",
-        ),
-        (3, LINES),
-        (4, LINES),
-        (5, LINES),
-    ];
-    for (call, lines) in cases {
-        let calls = [call];
-        let script = failing(TWO, Device::Link, &calls);
-        let ran = run(rt.alloc(), WORDS, b"input", &script)?;
-        assert_eq!(rt; ran.status, Status::Done, "{call}");
-        assert_eq!(rt; ran.link.sends().len(), 2, "{call}");
-        assert_eq!(rt; ran.written.as_slice(), lines, "{call}");
+    for (call, lines) in LINK_LINES {
+        let ran = run_failing(rt.alloc(), Device::Link, *call)?;
+        expect_link_lines(&rt, *call, lines, &ran);
     }
     Ok(())
 }

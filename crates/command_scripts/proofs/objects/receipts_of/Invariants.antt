@@ -1,6 +1,6 @@
 use Rattle.std.proofs.Common.{All}
 use Rattle.edge_io.specs.LinkScript.{IsNoFailure}
-use Rattle.w32tm_cmd.proofs.tests.devices.receipts_of.Given as goal
+use Rattle.command_scripts.proofs.objects.receipts_of.Given as goal
 
 -- no receipt so far is a failed receive
 abbrev pub invariant-loop-came : goal.invariant-loop-came

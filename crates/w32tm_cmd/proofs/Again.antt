@@ -1,0 +1,245 @@
+-- A replay writes the lines of the run.
+use Rattle.std.proofs.Common.{◌≡◌, ◌+◌, ◌-◌, ◌*◌, ◌^◌, ◌<◌, ◌≤◌, ◌⊎◌, ℕ, suc, ℤ, List, [], ◌∷◌, ◌++◌, length, reverse, min, Bool, true, false, if◌then◌else◌, Option, Some, refl, sym, ◌∙◌, ap, subst, arith, length-append, append_assoc, unsigned_abs}
+use Rattle.std.specs.List.{AllByRecursion, flat_map}
+use Rattle.std.proofs.lemmas.List.{append-nil, append_cancel_left, length-reverse}
+use Rattle.base_specs.specs.Told.{Added}
+use Rattle.edge_traits.specs.declared.link.Receipt.{Receipt}
+use Rattle.capture_fmt.specs.declared.event.Event.{Event}
+use Rattle.capture_fmt.specs.declared.event.Event.TheVariants.{Life, Tick, Resync, Arrive}
+use Rattle.capture_fmt.specs.Capture.{SpellsEvents, place_limit}
+use Rattle.capture_fmt.specs.Event.{EventFits}
+use Rattle.capture_fmt.specs.Record.{event_bytes, magic_number}
+use Rattle.byte_codec.specs.Numbers.{number_bytes}
+use Rattle.byte_codec.proofs.Numbers.{length-number_bytes}
+use Rattle.line_text.specs.Text.{joined}
+use Rattle.replay_run.specs.Totals.{AreTotals, is_refused}
+use Rattle.replay_run.specs.declared.end.ReplayEnd.{ReplayEnd}
+use Rattle.run_deeds.specs.Closing.{closing_by, closing_lines, link_line, total_line}
+use Rattle.run_deeds.specs.Deeds.{Ending, Whole, NoRecord, NoLine, IsWhole, cut_record, missing_in, reasons_by}
+use Rattle.run_deeds.specs.Devices.{EndsBy}
+use Rattle.run_deeds.specs.Lives.{Reports, Totals}
+use Rattle.run_deeds.specs.Weaving.{Need, Start, Stood, Turns, Weaves, none, life, reads, draws, gets, quiet, lost, arrives}
+use Rattle.run_deeds.specs.declared.life_end.LifeEnd.{LifeEnd}
+use Rattle.run_deeds.specs.declared.life_end.Why.{Why}
+use Rattle.run_deeds.specs.declared.life_end.Why.TheVariants as why
+use Rattle.slot_disk.specs.Told.{Told as DiskTold}
+use Rattle.time_machine.specs.declared.conf.Conf.{Conf}
+use Rattle.time_machine.specs.declared.outcome.Outcome.{Outcome}
+use Rattle.time_machine.specs.declared.outcome.Outcome.TheVariants.{Started, Idle, Sent, Moved, Refused}
+use Rattle.time_machine.specs.Entries.{count_of, gather}
+use Rattle.time_machine.specs.Events.{History}
+use Rattle.time_machine.specs.Machine.{moves_by, moves_of, posted_by, requests_of, told}
+use Rattle.time_machine.specs.Report.{report_of}
+use Rattle.time_machine.specs.Told.{Told, has_sent, is_accepted}
+use Rattle.w32tm_cmd.specs.Again.{Records, ReplaysAgain, WritesSameLines}
+use Rattle.w32tm_cmd.specs.Member.{member_seen}
+use Rattle.w32tm_cmd.specs.Replay.{IsReplayFaultless}
+use Rattle.w32tm_cmd.specs.Seen.{Seen}
+use Rattle.w32tm_text.specs.declared.status.Status.{Status}
+use Rattle.w32tm_text.specs.declared.status.Status.TheVariants.{Done, NoMemory}
+
+-- ---- How many events there are at most
+
+turns_bound : {conf : Conf} {left : ℕ} {history : History} {rs : List ℤ} {ws : List ℕ} {qs : List Receipt} {es : List Event} {need : Need}
+    → Weaves conf (Turns left) history rs ws qs es need → length es ≤ 2 * left
+turns_bound none = omega arith
+turns_bound (reads none) = omega arith
+turns_bound (reads (draws none)) = omega arith
+turns_bound (reads (draws (gets none))) = omega arith
+turns_bound (reads (draws (gets (arrives s)))) = let rest = turns_bound s in omega (arith, rest)
+turns_bound (reads (draws (quiet s))) = let rest = turns_bound s in omega (arith, rest)
+turns_bound (reads (draws (lost s))) = let rest = turns_bound s in omega (arith, rest)
+
+run_bound : {conf : Conf} {stood : Stood} {turns : ℕ} {history : History} {rs : List ℤ} {ws : List ℕ} {qs : List Receipt} {es : List Event} {need : Need}
+    → Weaves conf (Start stood (Turns turns)) history rs ws qs es need → length es ≤ 1 + 2 * turns
+run_bound none = omega arith
+run_bound (life s) = let rest = turns_bound s in omega (arith, rest)
+
+-- ---- How long a capture is at most
+
+-- a number, and then what stands behind it
+number_and : (size n most : ℕ) (rest : List ℕ) → length rest ≤ most → length (number_bytes size n ++ rest) ≤ size + most
+number_and size n most rest short = omega (arith, short, length-append (number_bytes size n) rest, length-number_bytes size n)
+
+-- a record has at most 273 bytes
+record_bound : (event : Event) → EventFits event → length (event_bytes event) ≤ 273
+unfolding event_bytes
+record_bound (Life now mark) fits =
+    let last = number_and 4 mark 0 [] (omega arith) in
+    let moment = number_and 8 (unsigned_abs now) 4 _ last in
+    let magic = number_and 4 magic_number 12 _ moment in
+    omega (arith, magic)
+record_bound (Tick now word) fits =
+    let last = number_and 4 word 0 [] (omega arith) in
+    let moment = number_and 8 (unsigned_abs now) 4 _ last in
+    omega (arith, moment)
+record_bound (Resync now word flags) fits =
+    let last = number_and 4 flags 0 [] (omega arith) in
+    let words = number_and 4 word 4 _ last in
+    let moment = number_and 8 (unsigned_abs now) 8 _ words in
+    omega (arith, moment)
+record_bound (Arrive now from bytes) fits =
+    let count = number_and 2 (length bytes) 256 bytes fits.3 in
+    let port = number_and 2 from.port 258 _ count in
+    let address = number_and 4 from.ip 260 _ port in
+    let moment = number_and 8 (unsigned_abs now) 264 _ address in
+    omega (arith, moment)
+
+records_bound : (events : List Event) → AllByRecursion EventFits events → length (flat_map event_bytes events) ≤ 273 * length events
+records_bound [] fits = omega arith
+records_bound (event ∷ events) fits =
+    omega (arith, length-append (event_bytes event) (flat_map event_bytes events), record_bound event fits.0, records_bound events fits.1)
+
+capture_bound : (events : List Event) (capture : List ℕ) → SpellsEvents events capture → length capture ≤ 273 * length events
+capture_bound events capture spells = omega (arith, ap length spells.written, records_bound events spells.fits)
+
+-- ---- Lists of what events led to, and counts of such events
+
+counted : {A : Type 0} (f : Told → List A) (test : Told → Bool) → ((t : Told) → length (f t) ≡ (if test t then 1 else 0))
+    → (ts : List Told) → length (gather f ts) ≡ count_of test ts
+counted f test each [] = refl
+counted f test each (t ∷ before) =
+    length-append (gather f before) (f t) ∙ ap (λ (n : ℕ). n + length (f t)) (counted f test each before)
+    ∙ ap (λ (n : ℕ). count_of test before + n) (each t)
+
+counted_low : (test : Told → Bool) (ts : List Told) → count_of test ts ≤ length ts
+counted_low test [] = omega arith
+counted_low test (t ∷ before) = one_more (test t) (counted_low test before)
+  where
+    one_more : (b : Bool) → count_of test before ≤ length before → count_of test before + (if b then 1 else 0) ≤ suc (length before)
+    one_more true low = omega (arith, low)
+    one_more false low = omega (arith, low)
+
+sent_each : (t : Told) → length (posted_by t.outcome) ≡ (if has_sent t then 1 else 0)
+sent_each t = by_outcome t.outcome refl
+  where
+    by_outcome : (o : Outcome) → t.outcome ≡ o → length (posted_by t.outcome) ≡ (if has_sent t then 1 else 0)
+    by_outcome (Sent to count bytes) is = rw is refl
+    by_outcome (Started mark) is = rw is refl
+    by_outcome Idle is = rw is refl
+    by_outcome (Moved count offset how) is = rw is refl
+    by_outcome (Refused reason) is = rw is refl
+
+moved_each : (t : Told) → length (moves_by t.outcome) ≡ (if is_accepted t then 1 else 0)
+moved_each t = by_outcome t.outcome refl
+  where
+    by_outcome : (o : Outcome) → t.outcome ≡ o → length (moves_by t.outcome) ≡ (if is_accepted t then 1 else 0)
+    by_outcome (Sent to count bytes) is = rw is refl
+    by_outcome (Started mark) is = rw is refl
+    by_outcome Idle is = rw is refl
+    by_outcome (Moved count offset how) is = rw is refl
+    by_outcome (Refused reason) is = rw is refl
+
+refused_each : (t : Told) → length (reasons_by t.outcome) ≡ (if is_refused t.outcome then 1 else 0)
+refused_each t = by_outcome t.outcome refl
+  where
+    by_outcome : (o : Outcome) → t.outcome ≡ o → length (reasons_by t.outcome) ≡ (if is_refused t.outcome then 1 else 0)
+    by_outcome (Sent to count bytes) is = rw is refl
+    by_outcome (Started mark) is = rw is refl
+    by_outcome Idle is = rw is refl
+    by_outcome (Moved count offset how) is = rw is refl
+    by_outcome (Refused reason) is = rw is refl
+
+told_length : (conf : Conf) (history : History) → length (told conf history) ≡ length history
+unfolding told
+told_length conf [] = refl
+told_length conf (e ∷ history) = ap (λ (n : ℕ). suc n) (told_length conf history)
+
+-- ---- The lines
+
+-- a list that grew by one front grew by that
+same_more : (old : List ℕ) (a b : List ℕ) → old ++ a ≡ old ++ b → a ≡ b
+same_more old a b same = append_cancel_left old a b same
+
+whole_text : (ending : Ending) → IsWhole ending → cut_record ending ≡ []
+whole_text Whole is = refl
+whole_text (NoRecord event front) is = absurd is
+whole_text (NoLine deed front) is = absurd is
+
+-- what a run that ended well printed
+printed_whole : (conf : Conf) (history : History) (end : LifeEnd) (ending : Ending) (need : Need) (text : List ℕ)
+    → end.why ≡ why.Done → IsWhole ending → Reports conf history end ending need text
+    → text ≡ (report_of conf history ++ total_line end.sent end.moved end.refused) ++ link_line end.quiet end.lost
+printed_whole conf history end Whole need text done is reports =
+    let Closing : Why → Type 0 = λ (w : Why). text ≡ report_of conf history ++ joined (closing_by w end) in
+    let closing : text ≡ report_of conf history ++ joined (closing_lines end) = subst Closing done reports in
+    let total = total_line end.sent end.moved end.refused in
+    let link = link_line end.quiet end.lost in
+    closing ∙ ap (λ (l : List ℕ). report_of conf history ++ (total ++ l)) (append-nil link) ∙ sym (append_assoc (report_of conf history) total link)
+printed_whole conf history end (NoRecord event front) need text done is reports = absurd is
+printed_whole conf history end (NoLine deed front) need text done is reports = absurd is
+
+-- a number that a run counts is the replay's, where it is no greater than the events
+same_number : (a b n : ℕ) → a ≡ min n (2 ^ 32 - 1) → b ≡ n → n ≤ 2000001 → a ≡ b
+same_number a b n capped is low = omega (arith, capped, is, low)
+
+events_low : {conf : Conf} {stood : Stood} {turns : ℕ} {history : History} {rs : List ℤ} {ws : List ℕ} {qs : List Receipt} {need : Need}
+    → (events missing : List Event) → Weaves conf (Start stood (Turns turns)) history rs ws qs (events ++ missing) need → turns ≤ 1000000 → length events ≤ 2000001
+events_low events missing weaves few = omega (arith, run_bound weaves, length-append events missing, few)
+
+same_total : (conf : Conf) (events : List Event) (end : LifeEnd) (again : ReplayEnd) (receipts : List Receipt) (tried : List _)
+    → length events ≤ 2000001 → Totals conf events receipts tried end → AreTotals conf (reverse events) again
+    → total_line end.sent end.moved end.refused ≡ total_line again.sent again.moved again.refused
+unfolding requests_of told moves_of
+same_total conf events end again receipts tried few totals are =
+    let history = reverse events in
+    let entries = told conf history in
+    let most : length entries ≤ 2000001 = omega (arith, few, told_length conf history, length-reverse events) in
+    let sends = counted (λ t. posted_by t.outcome) has_sent sent_each entries in
+    let moves = counted (λ t. moves_by t.outcome) is_accepted moved_each entries in
+    let refusals = counted (λ t. reasons_by t.outcome) (λ t. is_refused t.outcome) refused_each entries in
+    let sent = same_number end.sent again.sent (length (requests_of conf history)) totals.sent (are.sent ∙ sym sends) (omega (arith, most, sends, counted_low has_sent entries)) in
+    let moved = same_number end.moved again.moved (length (moves_of conf history)) totals.moved (are.moved ∙ sym moves) (omega (arith, most, moves, counted_low is_accepted entries)) in
+    let refused = same_number end.refused again.refused (length (gather (λ t. reasons_by t.outcome) entries)) totals.refused (are.refused ∙ sym refusals)
+    (omega (arith, most, refusals, counted_low (λ t. is_refused t.outcome) entries)) in
+    rw (sent, moved, refused) refl
+
+-- the capture that was told is the record of the events
+own_record : (before now : Option (List ℕ)) (old capture record_bytes : List ℕ) → before ≡ Some old → now ≡ Some (old ++ capture) → Added before now record_bytes → record_bytes ≡ capture
+own_record before now old capture record_bytes told grew added =
+    let seen : Added (Some old) (Some (old ++ capture)) record_bytes = subst (λ (o : Option (List ℕ)). Added (Some old) o record_bytes) grew (subst (λ (o : Option (List ℕ)). Added o now record_bytes) told added) in
+    sym (same_more old capture record_bytes seen)
+
+-- a run that ended well did each deed whole
+was_whole : (turns : ℕ) (entry exit : DiskTold) (before now : Seen) (capture : List ℕ) (run : Records turns entry exit before now capture) → IsWhole run.lived.lives.ending
+was_whole turns entry exit before now capture run =
+    let lived = run.lived in
+    let ends = subst (λ (w : Why). EndsBy w lived.lives.ending lived.lives.need (member_seen before).faults (member_seen now).faults) lived.ended lived.lives.ends in
+    ends.0
+
+-- what was recorded are the records of its events
+own_capture : (turns : ℕ) (entry exit : DiskTold) (before now : Seen) (capture : List ℕ) (run : Records turns entry exit before now capture) → SpellsEvents run.lived.lives.events capture
+own_capture turns entry exit before now capture run =
+    let lives = run.lived.lives in
+    let whole = whole_text lives.ending (was_whole turns entry exit before now capture run) in
+    let added = subst (λ (l : List ℕ). Added before.capture now.capture l) (ap (λ (l : List ℕ). lives.record_bytes ++ l) whole ∙ append-nil lives.record_bytes) lives.capture in
+    let own = own_record before.capture now.capture run.old capture lives.record_bytes run.told run.grew added in
+    subst (λ (l : List ℕ). SpellsEvents lives.events l) own lives.spells
+
+pub same_lines : (turns : ℕ) (entry exit : DiskTold) (before now later last : Seen) (capture : List ℕ) (run : Records turns entry exit before now capture)
+    → ReplaysAgain run.lived.settings capture later last Done → WritesSameLines run.lived.end.quiet run.lived.end.lost before now later last
+same_lines turns entry exit before now later last capture run again =
+    let lived = run.lived in
+    let lives = lived.lives in
+    let spells = own_capture turns entry exit before now capture run in
+    let whole = again.promise.whole again.bytes capture lived.settings lived.conf lives.events again.told again.says lived.is_conf again.given spells refl in
+    let low = events_low lives.events (missing_in lives.ending) lives.weaves run.few in
+    let total = same_total lived.conf lives.events lived.end whole.0 _ _ low lives.totals whole.1.totals in
+    let text = printed_whole lived.conf (reverse lives.events) lived.end lives.ending lives.need lives.text lived.ended
+    (was_whole turns entry exit before now capture run) lives.reports in
+    record {
+      lines = report_of lived.conf (reverse lives.events) ++ total_line lived.end.sent lived.end.moved lived.end.refused;
+      run = subst (λ (l : List ℕ). Added before.written now.written l) text lives.out;
+      replay = rw total whole.1.written;
+    }
+
+-- the capture ends below the limit, and its history grows
+pub replay_done : (turns : ℕ) (entry exit : DiskTold) (before now later last : Seen) (capture : List ℕ) (result : Status) (run : Records turns entry exit before now capture)
+    → ReplaysAgain run.lived.settings capture later last result → IsReplayFaultless later last → (result ≡ Done) ⊎ (result ≡ NoMemory)
+replay_done turns entry exit before now later last capture result run again faultless =
+    let lived = run.lived in
+    let lives = lived.lives in
+    let spells = own_capture turns entry exit before now capture run in
+    let low = events_low lives.events (missing_in lives.ending) lives.weaves run.few in
+    let short : length capture < place_limit = omega (arith, capture_bound lives.events capture spells, low) in
+    again.promise.done_of again.bytes capture lived.settings lived.conf lives.events again.told again.says lived.is_conf again.given spells short lives.grows faultless

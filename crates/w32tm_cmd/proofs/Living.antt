@@ -1,0 +1,241 @@
+-- What follows from a run of `/member` for each answer.
+use Rattle.std.proofs.Common.{◌≡◌, ◌≢◌, ◌⊎◌, ◌+◌, ◌<◌, ◌≤◌, ℕ, List, [], ◌++◌, reverse, Option, Some, IfSome, inl, inr, refl, sym, ◌∙◌, ap, subst, arith}
+use Rattle.std.proofs.lemmas.List.{append-nil}
+use Rattle.capture_fmt.specs.declared.event.Event.{Event}
+use Rattle.member_run.proofs.Blocks.{blocks_in, sends_in}
+use Rattle.member_run.proofs.Ordered.{followed_none}
+use Rattle.member_run.proofs.Turning.{whole_reserves}
+use Rattle.run_deeds.specs.Deeds.{Ending, Whole, NoRecord, NoLine, IsWhole, missing_in}
+use Rattle.run_deeds.specs.Devices.{EndsBy, NoneRose}
+use Rattle.run_deeds.specs.Lives.{KeptBy}
+use Rattle.run_deeds.specs.declared.life_end.LifeEnd.{LifeEnd}
+use Rattle.run_deeds.specs.declared.life_end.Why.{Why}
+use Rattle.run_deeds.specs.declared.life_end.Why.TheVariants as why
+use Rattle.slot_disk.specs.Told.{Told as DiskTold}
+use Rattle.stamp_keep.specs.Image.{mark_of_image}
+use Rattle.stamp_keep.specs.Keep.{IsLoadable}
+use Rattle.stamp_keep.specs.Slots.{HasOtherVersion}
+use Rattle.time_machine.specs.Machine.{told}
+use Rattle.w32t_settings.specs.declared.settings.Settings.{Settings}
+use Rattle.w32tm_cmd.specs.Config.{StopsAtConfig}
+use Rattle.w32tm_cmd.specs.Member.{IsBadKeeperExact, IsMemberComplete, IsMemberFaultless, IsMemberDoneWithin, IsStampsSpentExact, LivesUntil, MemberPromise, RunsMember, member_seen}
+use Rattle.w32tm_cmd.specs.Partners.{HasNoPartner}
+use Rattle.w32tm_cmd.specs.Seen.{Seen}
+use Rattle.w32tm_cmd.proofs.Sends.{run_ahead}
+use Rattle.w32tm_cmd.proofs.Configuring.{same_settings, settings_exact, stops_exact, stops_for_memory, stops_else}
+use Rattle.w32tm_text.specs.Conf.{HasNoCandidate}
+use Rattle.w32tm_text.specs.declared.status.Status.{Status}
+use Rattle.w32tm_text.specs.declared.status.Status.TheVariants.{Done, WriteFault, DiskFault, BadKeeper, StampsSpent, ClockFault, EntropyFault, NoPartner}
+
+-- ---- A life that was begun
+
+-- what is known of the settings' member and of its run
+pub record Judges (settings : Settings) (before now : Seen) (end : LifeEnd) : Type 0 where
+  pub some : HasNoCandidate settings → ⊥
+  pub complete : NoneRose (member_seen before).faults (member_seen now).faults
+      → (end.why ≡ why.Done) ⊎ (end.why ≡ why.BadVersion) ⊎ (end.why ≡ why.StampsSpent)
+
+-- the answer of a life that ended so
+abbrev answer_of : Why → Status
+answer_of why.Done = Done
+answer_of why.DiskFault = DiskFault
+answer_of why.BadVersion = BadKeeper
+answer_of why.StampsSpent = StampsSpent
+answer_of why.ClockFault = ClockFault
+answer_of why.EntropyFault = EntropyFault
+answer_of why.SinkFault = WriteFault
+
+runs_of : (turns : ℕ) (entry exit : DiskTold) (before now : Seen) (is : Why) → LivesUntil turns entry exit before now is → RunsMember turns entry exit before now (answer_of is)
+runs_of turns entry exit before now why.Done runs = runs
+runs_of turns entry exit before now why.DiskFault runs = runs
+runs_of turns entry exit before now why.BadVersion runs = runs
+runs_of turns entry exit before now why.StampsSpent runs = runs
+runs_of turns entry exit before now why.ClockFault runs = runs
+runs_of turns entry exit before now why.EntropyFault runs = runs
+runs_of turns entry exit before now why.SinkFault runs = runs
+
+none_rose : (before now : Seen) → IsMemberFaultless before now → NoneRose (member_seen before).faults (member_seen now).faults
+none_rose before now none = record { clock = none.clock; entropy = none.entropy; disk = none.disk; capture = none.capture; out = none.write }
+
+-- a told disk of this version is not refused
+loads : (entry : DiskTold) (content : List ℕ) → entry.content ≡ Some content → IsLoadable content → IfSome entry.content HasOtherVersion → ⊥
+loads entry content told loadable other = loadable (subst (λ (o : Option (List ℕ)). IfSome o HasOtherVersion) told other)
+
+-- a fault is none of the three ends without one
+no_end : (end : LifeEnd) (is : Why) → end.why ≡ is → is ≢ why.Done → is ≢ why.BadVersion → is ≢ why.StampsSpent
+    → (end.why ≡ why.Done) ⊎ (end.why ≡ why.BadVersion) ⊎ (end.why ≡ why.StampsSpent) → ⊥
+no_end end is ended done version spent (inl e) = done (cc (e, ended))
+no_end end is ended done version spent (inr (inl e)) = version (cc (e, ended))
+no_end end is ended done version spent (inr (inr e)) = spent (cc (e, ended))
+
+complete_of : (turns : ℕ) (entry exit : DiskTold) (before now : Seen) (is : Why) (runs : LivesUntil turns entry exit before now is)
+    → Judges runs.settings before now runs.end → IsMemberComplete entry before now (answer_of is)
+complete_of turns entry exit before now why.Done runs j bytes content settings given says some disk loadable none = inl refl
+complete_of turns entry exit before now why.StampsSpent runs j bytes content settings given says some disk loadable none = inr (inr refl)
+complete_of turns entry exit before now why.BadVersion runs j bytes content settings given says some disk loadable none =
+    let kept = subst (λ (w : Why). KeptBy w runs.lives.stood runs.lives.events (told runs.conf (reverse runs.lives.events)) entry exit) runs.ended runs.lives.kept in
+    absurd (loads entry content disk loadable kept.1)
+complete_of turns entry exit before now why.DiskFault runs j bytes content settings given says some disk loadable none =
+    absurd (no_end runs.end why.DiskFault runs.ended (λ is. cc is) (λ is. cc is) (λ is. cc is) (j.complete (none_rose before now none)))
+complete_of turns entry exit before now why.ClockFault runs j bytes content settings given says some disk loadable none =
+    absurd (no_end runs.end why.ClockFault runs.ended (λ is. cc is) (λ is. cc is) (λ is. cc is) (j.complete (none_rose before now none)))
+complete_of turns entry exit before now why.EntropyFault runs j bytes content settings given says some disk loadable none =
+    absurd (no_end runs.end why.EntropyFault runs.ended (λ is. cc is) (λ is. cc is) (λ is. cc is) (j.complete (none_rose before now none)))
+complete_of turns entry exit before now why.SinkFault runs j bytes content settings given says some disk loadable none =
+    absurd (no_end runs.end why.SinkFault runs.ended (λ is. cc is) (λ is. cc is) (λ is. cc is) (j.complete (none_rose before now none)))
+
+-- a run that ended otherwise found a disk of this version
+fits_version : (turns : ℕ) (entry exit : DiskTold) (before now : Seen) (is : Why) (runs : LivesUntil turns entry exit before now is) (content : List ℕ)
+    → entry.content ≡ Some content → HasOtherVersion content → is ≢ why.BadVersion → is ≢ why.DiskFault → ⊥
+fits_version turns entry exit before now is runs content disk other no_version no_fault =
+    let ended = runs.ended in
+    let loadable = runs.lives.loadable (inr (λ e. no_version (cc (e, ended)), λ e. no_fault (cc (e, ended)))) in
+    subst (λ (o : Option (List ℕ)). IfSome o IsLoadable) disk loadable other
+
+bad_keeper_of : (turns : ℕ) (entry exit : DiskTold) (before now : Seen) (is : Why) (runs : LivesUntil turns entry exit before now is)
+    → IsBadKeeperExact entry before (answer_of is)
+bad_keeper_of turns entry exit before now why.BadVersion runs bytes content settings given says some disk other = inl refl
+bad_keeper_of turns entry exit before now why.DiskFault runs bytes content settings given says some disk other = inr (inl refl)
+bad_keeper_of turns entry exit before now why.Done runs bytes content settings given says some disk other =
+    absurd (fits_version turns entry exit before now why.Done runs content disk other (λ is. cc is) (λ is. cc is))
+bad_keeper_of turns entry exit before now why.StampsSpent runs bytes content settings given says some disk other =
+    absurd (fits_version turns entry exit before now why.StampsSpent runs content disk other (λ is. cc is) (λ is. cc is))
+bad_keeper_of turns entry exit before now why.ClockFault runs bytes content settings given says some disk other =
+    absurd (fits_version turns entry exit before now why.ClockFault runs content disk other (λ is. cc is) (λ is. cc is))
+bad_keeper_of turns entry exit before now why.EntropyFault runs bytes content settings given says some disk other =
+    absurd (fits_version turns entry exit before now why.EntropyFault runs content disk other (λ is. cc is) (λ is. cc is))
+bad_keeper_of turns entry exit before now why.SinkFault runs bytes content settings given says some disk other =
+    absurd (fits_version turns entry exit before now why.SinkFault runs content disk other (λ is. cc is) (λ is. cc is))
+
+none_missing : (ending : Ending) → IsWhole ending → missing_in ending ≡ []
+none_missing Whole whole = refl
+none_missing (NoRecord event front) whole = absurd whole
+none_missing (NoLine deed front) whole = refl
+
+-- a run whose turns were all taken had a block left
+had_room : (turns : ℕ) (entry exit : DiskTold) (before now : Seen) (runs : LivesUntil turns entry exit before now why.Done) (content : List ℕ)
+    → 0 < turns → entry.content ≡ Some content → 4294967231 < mark_of_image content → ⊥
+unfolding told
+had_room turns entry exit before now runs content some disk above =
+    let l = runs.lives in
+    let ends = subst (λ (w : Why). EndsBy w l.ending l.need (member_seen before).faults (member_seen now).faults) runs.ended l.ends in
+    let given : l.events ++ missing_in l.ending ≡ l.events = ap (λ (es : List Event). l.events ++ es) (none_missing l.ending ends.0) ∙ append-nil l.events in
+    let P : List Event → Type 0 = λ (es : List Event). 1 ≤ blocks_in runs.conf es in
+    let all : P (reverse l.events) = subst P (followed_none (l.events ++ missing_in l.ending) ∙ ap reverse given) (whole_reserves l.weaves some (l.well runs.ended)) in
+    let mark : l.stood.mark ≡ mark_of_image content = subst (λ (o : Option (List ℕ)). IfSome o (λ c. l.stood.mark ≡ mark_of_image c)) disk l.stood_for in
+    let taken : l.events ≢ [] = λ none.
+    let nothing : P [] = subst P (ap reverse none) all in
+    omega (arith, nothing) in
+    omega (arith, l.within taken, mark, above, all)
+
+spent_by : {A B C : Type 0} → (A → ⊥) → A ⊎ (B ⊎ C) → C ⊎ B
+spent_by never (inl done) = absurd (never done)
+spent_by never (inr (inl memory)) = inr memory
+spent_by never (inr (inr spent)) = inl spent
+
+spent_of : (turns : ℕ) (entry exit : DiskTold) (before now : Seen) (is : Why) → LivesUntil turns entry exit before now is → IsMemberComplete entry before now (answer_of is)
+    → IsStampsSpentExact turns entry before now (answer_of is)
+spent_of turns entry exit before now why.Done runs complete bytes content settings more given says some disk loadable above none =
+    absurd (had_room turns entry exit before now runs content more disk above)
+spent_of turns entry exit before now why.StampsSpent runs complete bytes content settings more given says some disk loadable above none = inl refl
+spent_of turns entry exit before now why.DiskFault runs complete bytes content settings more given says some disk loadable above none =
+    spent_by (λ is. cc is) (complete bytes content settings given says some disk loadable none)
+spent_of turns entry exit before now why.BadVersion runs complete bytes content settings more given says some disk loadable above none =
+    spent_by (λ is. cc is) (complete bytes content settings given says some disk loadable none)
+spent_of turns entry exit before now why.ClockFault runs complete bytes content settings more given says some disk loadable above none =
+    spent_by (λ is. cc is) (complete bytes content settings given says some disk loadable none)
+spent_of turns entry exit before now why.EntropyFault runs complete bytes content settings more given says some disk loadable above none =
+    spent_by (λ is. cc is) (complete bytes content settings given says some disk loadable none)
+spent_of turns entry exit before now why.SinkFault runs complete bytes content settings more given says some disk loadable above none =
+    spent_by (λ is. cc is) (complete bytes content settings given says some disk loadable none)
+
+-- a run that was short of a count had fewer counts than turns
+had_few : (turns : ℕ) (entry exit : DiskTold) (before now : Seen) (runs : LivesUntil turns entry exit before now why.StampsSpent) (content : List ℕ)
+    → entry.content ≡ Some content → mark_of_image content + turns ≤ 4294967232 → ⊥
+had_few turns entry exit before now runs content disk fits =
+    let l = runs.lives in
+    let ends = subst (λ (w : Why). EndsBy w l.ending l.need (member_seen before).faults (member_seen now).faults) runs.ended l.ends in
+    let given : l.events ++ missing_in l.ending ≡ l.events = ap (λ (es : List Event). l.events ++ es) (none_missing l.ending ends.0) ∙ append-nil l.events in
+    let P : List Event → Type 0 = λ (es : List Event). 1 + sends_in runs.conf es ≤ turns in
+    let ahead : P (reverse l.events) = subst P (followed_none (l.events ++ missing_in l.ending) ∙ ap reverse given) (run_ahead l.weaves ends.1) in
+    let mark : l.stood.mark ≡ mark_of_image content = subst (λ (o : Option (List ℕ)). IfSome o (λ c. l.stood.mark ≡ mark_of_image c)) disk l.stood_for in
+    let kept = subst (λ (w : Why). KeptBy w l.stood l.events (told runs.conf (reverse l.events)) entry exit) runs.ended l.kept in
+    omega (arith, mark, fits, ahead, kept.2)
+
+done_by : {A B C : Type 0} → (C → ⊥) → A ⊎ (B ⊎ C) → A ⊎ B
+done_by never (inl done) = inl done
+done_by never (inr (inl memory)) = inr memory
+done_by never (inr (inr spent)) = absurd (never spent)
+
+enough_of : (turns : ℕ) (entry exit : DiskTold) (before now : Seen) (is : Why) → LivesUntil turns entry exit before now is → IsMemberComplete entry before now (answer_of is)
+    → IsMemberDoneWithin turns entry before now (answer_of is)
+enough_of turns entry exit before now why.StampsSpent runs complete bytes content settings given says some disk loadable fits none =
+    absurd (had_few turns entry exit before now runs content disk fits)
+enough_of turns entry exit before now why.Done runs complete bytes content settings given says some disk loadable fits none = inl refl
+enough_of turns entry exit before now why.DiskFault runs complete bytes content settings given says some disk loadable fits none =
+    done_by (λ is. cc is) (complete bytes content settings given says some disk loadable none)
+enough_of turns entry exit before now why.BadVersion runs complete bytes content settings given says some disk loadable fits none =
+    done_by (λ is. cc is) (complete bytes content settings given says some disk loadable none)
+enough_of turns entry exit before now why.ClockFault runs complete bytes content settings given says some disk loadable fits none =
+    done_by (λ is. cc is) (complete bytes content settings given says some disk loadable none)
+enough_of turns entry exit before now why.EntropyFault runs complete bytes content settings given says some disk loadable fits none =
+    done_by (λ is. cc is) (complete bytes content settings given says some disk loadable none)
+enough_of turns entry exit before now why.SinkFault runs complete bytes content settings given says some disk loadable fits none =
+    done_by (λ is. cc is) (complete bytes content settings given says some disk loadable none)
+
+pub judged : (turns : ℕ) (entry exit : DiskTold) (before now : Seen) (is : Why) (runs : LivesUntil turns entry exit before now is)
+    → Judges runs.settings before now runs.end → MemberPromise turns entry exit before now (answer_of is)
+judged turns entry exit before now is runs j = record {
+  runs = runs_of turns entry exit before now is runs;
+  exact = settings_exact before now runs.settings (answer_of is) runs.configured;
+  no_partner = λ bytes settings given says none.
+      absurd (j.some (subst HasNoCandidate (sym (same_settings before now runs.settings settings bytes given says runs.configured)) none));
+  bad_keeper = bad_keeper_of turns entry exit before now is runs;
+  complete = complete_of turns entry exit before now is runs j;
+  stamps_spent = spent_of turns entry exit before now is runs (complete_of turns entry exit before now is runs j);
+  enough = enough_of turns entry exit before now is runs (complete_of turns entry exit before now is runs j);
+}
+
+-- ---- A life that was not begun
+
+pub partnerless : (turns : ℕ) (entry exit : DiskTold) (before now : Seen) (runs : HasNoPartner before now) → MemberPromise turns entry exit before now NoPartner
+partnerless turns entry exit before now runs = record {
+  runs = runs;
+  exact = settings_exact before now runs.settings NoPartner runs.configured;
+  no_partner = λ bytes settings given says other. inl refl;
+  bad_keeper = λ bytes content settings given says some disk other.
+      absurd (subst HasNoCandidate (same_settings before now runs.settings settings bytes given says runs.configured) runs.none some.0 some.1);
+  complete = λ bytes content settings given says some disk loadable none.
+      absurd (subst HasNoCandidate (same_settings before now runs.settings settings bytes given says runs.configured) runs.none some.0 some.1);
+  stamps_spent = λ bytes content settings more given says some disk loadable above none.
+      absurd (subst HasNoCandidate (same_settings before now runs.settings settings bytes given says runs.configured) runs.none some.0 some.1);
+  enough = λ bytes content settings given says some disk loadable fits none.
+      absurd (subst HasNoCandidate (same_settings before now runs.settings settings bytes given says runs.configured) runs.none some.0 some.1);
+}
+
+promises : (turns : ℕ) (entry exit : DiskTold) (before now : Seen) (result : Status) → RunsMember turns entry exit before now result → StopsAtConfig before now result
+    → MemberPromise turns entry exit before now result
+promises turns entry exit before now result runs stops = record {
+  runs = runs;
+  exact = stops_exact before now result stops;
+  no_partner = λ bytes settings given says none. inr (stops_else before now settings result bytes given says stops);
+  bad_keeper = λ bytes content settings given says some disk other. inr (inr (stops_else before now settings result bytes given says stops));
+  complete = λ bytes content settings given says some disk loadable none.
+      inr (inl (stops_for_memory before now settings result bytes given says none.config stops));
+  stamps_spent = λ bytes content settings more given says some disk loadable above none.
+      inr (stops_for_memory before now settings result bytes given says none.config stops);
+  enough = λ bytes content settings given says some disk loadable fits none.
+      inr (stops_for_memory before now settings result bytes given says none.config stops);
+}
+
+-- a command that got no settings
+pub stopped : (turns : ℕ) (entry exit : DiskTold) (before now : Seen) (result : Status) → StopsAtConfig before now result → MemberPromise turns entry exit before now result
+stopped turns entry exit before now Done stops = absurd stops
+stopped turns entry exit before now WriteFault stops = absurd stops
+stopped turns entry exit before now DiskFault stops = absurd stops
+stopped turns entry exit before now BadKeeper stops = absurd stops
+stopped turns entry exit before now StampsSpent stops = absurd stops
+stopped turns entry exit before now ClockFault stops = absurd stops
+stopped turns entry exit before now EntropyFault stops = absurd stops
+stopped turns entry exit before now NoPartner stops = absurd stops
+stopped turns entry exit before now status stops = promises turns entry exit before now status stops stops
