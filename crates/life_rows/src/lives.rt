@@ -1,0 +1,530 @@
+//! A member that runs over its devices, whose calls fail or don't.
+ghost use Rattle.std.specs.Prelude.{◌≡◌, ◌≤◌, ◌≤ℤ◌, All, IfOk, Ok, OnOk, pos};
+ghost use Rattle.base_specs.specs.Time.{IsReading};
+ghost use Rattle.edge_io.specs.LinkScript.{IsNoFailure};
+ghost use Rattle.slot_disk.specs.Memory.{memory_tells};
+ghost use Rattle.member_run.specs.Running.{IsGoing};
+
+use edge_io::{Addr, Datagram, Move, Receipt, ScriptClock, ScriptEntropy, ScriptLink, ScriptSink};
+use key_book::Account;
+use member_run::{LifeEnd, Running, Why, live};
+use ms_auth::Kind;
+use phase_rule::Limits;
+use slot_disk::MemoryDisk;
+use sntp_core::{Conf, Partners};
+use std::alloc::{AllocError, Global};
+use std::process::Abort;
+use std::test::Fail;
+
+/// 1 January 2020, in ticks.
+const R0: i64 = 132_223_104_000_000_000;
+
+/// From one turn to the next: 1,024 seconds.
+const TURN: i64 = 10_240_000_000;
+
+const TURNS: u32 = 20;
+
+/// The address of the first partner in rank.
+const FIRST: Addr = Addr {
+    ip: 0x0A00_0002,
+    port: 123,
+};
+
+/// The addresses of all partners, in rank.
+const PARTNERS: [Addr; 3] = [
+    FIRST,
+    Addr {
+        ip: 0x0A00_0001,
+        port: 123,
+    },
+    Addr {
+        ip: 0x0A00_0003,
+        port: 123,
+    },
+];
+
+// The reply to the request with the count 3 and the word 3, received 3 seconds later by the server's clock and sent a
+// millisecond after that. With the header in the file `header` and the key 00 01 .. 0F the checksum is
+// (echo KEY | xxd -r -p; cat header) | openssl md5
+const REPLY: [u8; 68] = *b"\x1C\x01\x0A\xE9\0\0\0\0\0\0\0\0LOCL\xE1\xB6\x67\x83\0\0\0\0\
+\0\0\0\x03\0\0\0\x03\xE1\xB6\x67\x83\0\0\0\0\xE1\xB6\x67\x83\0\x41\x89\x38\x4F\x04\0\0\
+\x69\x29\xC1\xA1\x01\xDF\xD5\xB3\x37\xC5\xC4\x2A\x71\x15\xA1\x7E";
+
+const REPORT: &[u8] = b"life mark=0\n\
+send n=1 to=10.0.0.2:123\n\
+send n=2 to=10.0.0.2:123\n\
+refused reason=BadLength\n\
+send n=3 to=10.0.0.2:123\n\
+moved n=3 offset=29000000 by=slew\n\
+send n=4 to=10.0.0.2:123\n\
+send n=5 to=10.0.0.2:123\n\
+send n=6 to=10.0.0.2:123\n\
+send n=7 to=10.0.0.2:123\n\
+send n=8 to=10.0.0.2:123\n\
+send n=9 to=10.0.0.2:123\n\
+send n=10 to=10.0.0.2:123\n\
+send n=11 to=10.0.0.2:123\n\
+send n=12 to=10.0.0.1:123\n\
+send n=13 to=10.0.0.1:123\n\
+send n=14 to=10.0.0.1:123\n\
+send n=15 to=10.0.0.1:123\n\
+send n=16 to=10.0.0.1:123\n\
+send n=17 to=10.0.0.1:123\n\
+send n=18 to=10.0.0.1:123\n\
+send n=19 to=10.0.0.1:123\n\
+total sent=19 moved=1 refused=1\n\
+link quiet=18 lost=0\n";
+
+/// The number of the call that fails, of each object. The call 0 is none.
+#[derive(Clone, Copy, Default)]
+struct Failing {
+    link: u64,
+    clock: u64,
+    disk: u64,
+    entropy: u64,
+    out: u64,
+    capture: u64,
+}
+
+/// The objects behind a run.
+#[derive(Drop)]
+struct Objects {
+    link: ScriptLink,
+    clock: ScriptClock,
+    disk: MemoryDisk,
+    entropy: ScriptEntropy,
+    out: ScriptSink,
+    capture: ScriptSink,
+}
+
+/// How a run ended, and the objects behind it.
+#[derive(Drop)]
+struct Ran {
+    end: LifeEnd,
+    objects: Objects,
+}
+
+/// The member WS1, whose ranked partners are 10.0.0.2, 10.0.0.1 and 10.0.0.3, with the limits that it has by default.
+fn conf_of(alloc: Global) -> Result<Conf, AllocError> {
+    let account = Account {
+        rid: 1103,
+        current: [0, 1, 2, 3, 4, 5, 6, 7, 8, 9, 10, 11, 12, 13, 14, 15],
+        previous: None,
+    };
+    let limits = Limits {
+        max_pos: 172_800,
+        max_neg: 172_800,
+        max_allowed: 300,
+        min_poll: 10,
+        max_poll: 15,
+    };
+    let list = PARTNERS.to_vec(alloc)?;
+    Ok(Conf {
+        kind: Kind::Short,
+        account,
+        limits,
+        partners: Partners::new(list),
+    })
+}
+
+/// When a turn starts, counted from 1.
+fn start_of(turn: u32) -> i64
+    requires { turn ≤ 20 }
+    // between R0 less a turn and R0 with twenty of them
+    ensures first { pos 132223093760000000 ≤ℤ result }
+    ensures last { result ≤ℤ pos 132223308800000000 }
+{
+    R0 + i64::from(turn) * TURN - TURN
+}
+
+/// The times of the realistic run: one for the Life, one a turn, and in the turns 2 and 3 one behind it.
+fn times_of(alloc: Global) -> Result<Vec<i64>, AllocError> {
+    let mut times = Vec::new(alloc);
+    times.push(R0)?;
+    for turn in 1..21u32 {
+        let now = start_of(turn);
+        times.push(now)?;
+        if turn == 2 {
+            times.push(now + 10_000)?;
+        }
+        if turn == 3 {
+            times.push(now + 2_010_000)?;
+        }
+    }
+    Ok(times)
+}
+
+/// The numbers among these that are readings.
+fn readings_among(alloc: Global, numbers: &[i64]) -> Result<Vec<i64>, AllocError>
+    ensures { IfOk result (λ readings. All IsReading readings.items) }
+{
+    numbers
+        .iter()
+        .copied()
+        .filter(|number| *number >= 0 && *number <= 4_000_000_000_000_000_000)
+        .collect(alloc)
+}
+
+/// The readings of the realistic run.
+fn readings_of(alloc: Global) -> Result<Vec<i64>, AllocError>
+    ensures { IfOk result (λ readings. All IsReading readings.items) }
+{
+    let times = times_of(alloc)?;
+    readings_among(alloc, &times)
+}
+
+/// Nothing, ten zero bytes, and the reply.
+fn receipts_of(alloc: Global) -> Result<Vec<Receipt>, AllocError>
+    ensures { IfOk result (λ receipts. All IsNoFailure receipts.items) }
+{
+    let mut receipts = Vec::new(alloc);
+    receipts.push(Receipt::Quiet)?;
+    receipts.push(Receipt::Got(FIRST, Datagram::from_slice(&[0; 10])))?;
+    receipts.push(Receipt::Got(FIRST, Datagram::from_slice(&REPLY)))?;
+    Ok(receipts)
+}
+
+/// A link over which these come, of which this call fails.
+fn link_of(alloc: Global, receipts: Vec<Receipt>, call: u64) -> Result<ScriptLink, Fail>
+    requires { All IsNoFailure receipts.items }
+{
+    let link = ScriptLink::new(alloc, receipts, [call].to_vec(alloc)?, 32)?;
+    Ok(link)
+}
+
+/// A clock that gives these readings, of which this call fails.
+fn clock_of(alloc: Global, readings: Vec<i64>, call: u64) -> Result<ScriptClock, Fail>
+    requires { All IsReading readings.items }
+{
+    let clock = ScriptClock::new(alloc, readings, [call].to_vec(alloc)?, 32)?;
+    Ok(clock)
+}
+
+/// An empty disk, of which this call fails.
+fn disk_of(alloc: Global, call: u64) -> Result<MemoryDisk, Fail> {
+    let disk = MemoryDisk::new(alloc, [0; 256], [call].to_vec(alloc)?, 64)?;
+    Ok(disk)
+}
+
+/// An entropy that draws 1 to 20, of which this call fails.
+fn entropy_of(alloc: Global, call: u64) -> Result<ScriptEntropy, Fail> {
+    let mut words = Vec::new(alloc);
+    for word in 1..21 {
+        words.push(word)?;
+    }
+    let entropy = ScriptEntropy::new(alloc, words, [call].to_vec(alloc)?, 0)?;
+    Ok(entropy)
+}
+
+fn sink_of(alloc: Global, call: u64) -> Result<ScriptSink, Fail> {
+    let sink = ScriptSink::new(alloc, [call].to_vec(alloc)?, 1_000)?;
+    Ok(sink)
+}
+
+/// Objects that give these receipts and readings, with these failing calls.
+fn objects_of(
+    alloc: Global,
+    receipts: Vec<Receipt>,
+    readings: Vec<i64>,
+    fails: Failing,
+) -> Result<Objects, Fail>
+    requires receipts { All IsNoFailure receipts.items }
+    requires readings { All IsReading readings.items }
+{
+    let link = link_of(alloc, receipts, fails.link)?;
+    let clock = clock_of(alloc, readings, fails.clock)?;
+    let disk = disk_of(alloc, fails.disk)?;
+    let entropy = entropy_of(alloc, fails.entropy)?;
+    let out = sink_of(alloc, fails.out)?;
+    let capture = sink_of(alloc, fails.capture)?;
+    Ok(Objects {
+        link,
+        clock,
+        disk,
+        entropy,
+        out,
+        capture,
+    })
+}
+
+/// So many turns over these receipts, with these failing calls.
+fn run_over(alloc: Global, receipts: Vec<Receipt>, turns: u32, fails: Failing) -> Result<Ran, Fail>
+    requires { All IsNoFailure receipts.items }
+{
+    let conf = conf_of(alloc)?;
+    let readings = readings_of(alloc)?;
+    let mut objects = objects_of(alloc, receipts, readings, fails)?;
+    let end = live(
+        conf,
+        turns,
+        &mut objects.link,
+        &mut objects.clock,
+        &mut objects.disk,
+        &mut objects.entropy,
+        &mut objects.out,
+        &mut objects.capture,
+    );
+    Ok(Ran { end, objects })
+}
+
+/// The realistic run, with these failing calls.
+fn run(alloc: Global, fails: Failing) -> Result<Ran, Fail> {
+    let receipts = receipts_of(alloc)?;
+    run_over(alloc, receipts, TURNS, fails)
+}
+
+/// Five turns in which nothing comes.
+fn run_quiet(alloc: Global, fails: Failing) -> Result<Ran, Fail> {
+    run_over(alloc, Vec::new(alloc), 5, fails)
+}
+
+fn add(bytes: &mut Vec<u8>, kind: u8, now: i64) -> Result<(), AllocError> {
+    bytes.push(kind)?;
+    if kind == 1 {
+        bytes.extend_from_slice(b"W32T")?;
+    }
+    bytes.extend_from_slice(&now.to_be_bytes())
+}
+
+fn add_tick(bytes: &mut Vec<u8>, now: i64, word: u32) -> Result<(), AllocError> {
+    add(bytes, 2, now)?;
+    bytes.extend_from_slice(&word.to_be_bytes())
+}
+
+fn add_arrive(bytes: &mut Vec<u8>, now: i64, len: u8, datagram: &[u8]) -> Result<(), AllocError> {
+    add(bytes, 4, now)?;
+    bytes.extend_from_slice(&[0x0A, 0, 0, 2, 0, 123, 0, len])?;
+    bytes.extend_from_slice(datagram)
+}
+
+/// The capture of the realistic run, record by record.
+fn capture_of(alloc: Global) -> Result<Vec<u8>, AllocError> {
+    let mut bytes = Vec::new(alloc);
+    add(&mut bytes, 1, R0)?;
+    bytes.extend_from_slice(&[0; 4])?;
+    for turn in 1..21u32 {
+        let now = start_of(turn);
+        add_tick(&mut bytes, now, turn)?;
+        if turn == 2 {
+            add_arrive(&mut bytes, now + 10_000, 10, &[0; 10])?;
+        }
+        if turn == 3 {
+            add_arrive(&mut bytes, now + 2_010_000, 68, &REPLY)?;
+        }
+    }
+    Ok(bytes)
+}
+
+// The lines, the capture, the correction, the sends and what the disk holds.
+fn expect_realistic(rt: &impl Abort, capture: &[u8], objects: &Objects) {
+    assert_eq!(rt;
+        (objects.out.bytes(), objects.capture.bytes()),
+        (REPORT, capture)
+    );
+    assert_eq!(rt;
+        (objects.clock.moves(), objects.link.sends().len()),
+        ([Move::Slew(29_000_000)].as_slice(), 19)
+    );
+    assert_eq!(rt;
+        &objects.disk.content()[..8],
+        b"\xA5\x01\0\0\0\0\0\x40".as_slice()
+    );
+}
+
+#[test]
+fn realistic_run(rt: HostRuntime) -> Result<(), Fail> {
+    let ran = run(rt.alloc(), Failing::default())?;
+    let capture = capture_of(rt.alloc())?;
+    assert_eq!(rt; capture.len(), 389);
+    expect_realistic(&rt, &capture, &ran.objects);
+    assert_eq!(rt;
+        ran.end,
+        LifeEnd {
+            sent: 19,
+            moved: 1,
+            refused: 1,
+            quiet: 18,
+            lost: 0,
+            turns: 20,
+            why: Why::Done,
+        }
+    );
+    Ok(())
+}
+
+// Quiet receipts, and a clock whose third or fourth reading fails.
+#[test]
+fn bad_words_and_first_faults(rt: HostRuntime) -> Result<(), Fail> {
+    let capture = capture_of(rt.alloc())?;
+    for (call, turns, len) in [(4, 2, 43), (3, 1, 30)] {
+        let fails = Failing {
+            clock: call,
+            ..Failing::default()
+        };
+        let ran = run_quiet(rt.alloc(), fails)?;
+        assert_eq!(rt;
+            (
+                ran.end.why,
+                ran.end.turns,
+                Some(ran.objects.capture.bytes())
+            ),
+            (Why::ClockFault, turns, capture.get(..len))
+        );
+    }
+    Ok(())
+}
+
+/// An object of a run.
+#[derive(Clone, Copy)]
+enum Object {
+    Link,
+    Clock,
+    Disk,
+    Entropy,
+    Out,
+    Capture,
+}
+
+fn failure_of(object: Object, call: u64) -> Failing {
+    let mut fails = Failing::default();
+    match object {
+        Object::Link => fails.link = call,
+        Object::Clock => fails.clock = call,
+        Object::Disk => fails.disk = call,
+        Object::Entropy => fails.entropy = call,
+        Object::Out => fails.out = call,
+        Object::Capture => fails.capture = call,
+    }
+    fails
+}
+
+/// Which call fails, why the run ends, and how many bytes of the capture, moves and Ticks are those of the events taken.
+type Row = (Object, u64, Why, usize, usize, u32);
+
+const FAULTS: &[Row] = &[
+    (Object::Link, 1, Why::Done, 389, 1, 20),
+    (Object::Clock, 1, Why::ClockFault, 0, 0, 0),
+    (Object::Clock, 4, Why::ClockFault, 43, 0, 2),
+    (Object::Clock, 6, Why::ClockFault, 83, 0, 3),
+    (Object::Disk, 1, Why::DiskFault, 0, 0, 0),
+    (Object::Disk, 2, Why::DiskFault, 0, 0, 0),
+    (Object::Disk, 3, Why::DiskFault, 17, 0, 0),
+    (Object::Disk, 6, Why::DiskFault, 17, 0, 0),
+    (Object::Disk, 7, Why::Done, 389, 1, 20),
+    (Object::Entropy, 1, Why::EntropyFault, 17, 0, 0),
+    (Object::Entropy, 3, Why::EntropyFault, 70, 0, 2),
+    (Object::Capture, 1, Why::SinkFault, 0, 0, 0),
+    (Object::Capture, 4, Why::SinkFault, 43, 0, 2),
+    (Object::Capture, 6, Why::SinkFault, 83, 0, 3),
+    (Object::Out, 1, Why::SinkFault, 17, 0, 0),
+    (Object::Out, 6, Why::SinkFault, 168, 1, 3),
+    (Object::Out, 23, Why::SinkFault, 389, 1, 20),
+    (Object::Out, 24, Why::SinkFault, 389, 1, 20),
+];
+
+fn expect_row(rt: &impl Abort, whole: &[u8], row: &Row, ran: &Ran) {
+    let (_, call, why, len, moves, turns) = *row;
+    assert_eq!(rt;
+        (ran.end.why, ran.end.turns, ran.objects.clock.moves().len()),
+        (why, turns, moves),
+        "call {call}"
+    );
+    assert_eq!(rt;
+        Some(ran.objects.capture.bytes()),
+        whole.get(..len),
+        "call {call}"
+    );
+}
+
+#[test]
+fn each_device_fails(rt: HostRuntime) -> Result<(), Fail> {
+    let whole = capture_of(rt.alloc())?;
+    for row in FAULTS {
+        let (object, call, ..) = *row;
+        let ran = run(rt.alloc(), failure_of(object, call))?;
+        expect_row(&rt, &whole, row, &ran);
+    }
+    Ok(())
+}
+
+/// The readings of three calls: one for the Life, one a call, and one behind the last.
+fn call_readings(alloc: Global) -> Result<Vec<i64>, AllocError>
+    ensures { IfOk result (λ readings. All IsReading readings.items) }
+{
+    let mut readings = Vec::new(alloc);
+    readings.push(R0)?;
+    readings.push(R0)?;
+    readings.push(R0 + TURN)?;
+    readings.push(R0 + 2 * TURN)?;
+    readings.push(R0 + 2 * TURN + 2_010_000)?;
+    Ok(readings)
+}
+
+/// Nothing, and the reply.
+fn call_receipts(alloc: Global) -> Result<Vec<Receipt>, AllocError>
+    ensures { IfOk result (λ receipts. All IsNoFailure receipts.items) }
+{
+    let mut receipts = Vec::new(alloc);
+    receipts.push(Receipt::Quiet)?;
+    receipts.push(Receipt::Got(FIRST, Datagram::from_slice(&REPLY)))?;
+    Ok(receipts)
+}
+
+/// What a call of a run answers, which is no error.
+fn answered<T: Drop>(answer: Result<T, Why>) -> Result<T, Fail>
+    ensures { IfOk result (λ value. answer ≡ Ok value) }
+{
+    match answer {
+        Ok(value) => Ok(value),
+        Err(_) => Err(Fail::new("a call of the run failed")),
+    }
+}
+
+/// The start of a run.
+fn start(alloc: Global, objects: &mut Objects) -> Result<Running, Fail>
+    ensures { IfOk result (λ run. IsGoing (memory_tells objects.new.disk) run) }
+{
+    let conf = conf_of(alloc)?;
+    answered(Running::start(
+        conf,
+        &mut objects.clock,
+        &mut objects.disk,
+        &mut objects.out,
+        &mut objects.capture,
+    ))
+}
+
+/// A call that asks for the result of its round.
+fn resync(run: &mut Running, wait: u32, objects: &mut Objects) -> Result<u32, Fail>
+    requires { IsGoing (memory_tells objects.old.disk) run.old }
+    ensures { OnOk result (IsGoing (memory_tells objects.new.disk) run.new) }
+{
+    answered(run.resync(
+        wait,
+        2,
+        &mut objects.link,
+        &mut objects.clock,
+        &mut objects.disk,
+        &mut objects.entropy,
+        &mut objects.out,
+        &mut objects.capture,
+    ))
+}
+
+// A request alone, a round in which nothing comes, and one whose reply is accepted.
+#[test]
+fn calls_of_a_run(rt: HostRuntime) -> Result<(), Fail> {
+    let receipts = call_receipts(rt.alloc())?;
+    let readings = call_readings(rt.alloc())?;
+    let mut objects = objects_of(rt.alloc(), receipts, readings, Failing::default())?;
+    let mut run = start(rt.alloc(), &mut objects)?;
+    let alone = resync(&mut run, 0, &mut objects)?;
+    let quiet = resync(&mut run, 1, &mut objects)?;
+    let moved = resync(&mut run, 1, &mut objects)?;
+    assert_eq!(rt;
+        (alone, quiet, moved, run.source(), run.totals().sent),
+        (0, 1, 0, Some(0), 3)
+    );
+    assert_eq!(rt; objects.clock.moves(), [Move::Slew(29_000_000)].as_slice());
+    Ok(())
+}
