@@ -2,7 +2,8 @@
 use Rattle.std.specs.Prelude.{◌≡◌, ℕ, List, ◌++◌, slice_get, Option, Some, None, String}
 use Rattle.std.specs.declared.alloc.Global.{Global}
 use Rattle.w32tm_text.specs.declared.words.Action.{Action}
-use Rattle.w32tm_text.specs.declared.words.Action.TheVariants.{Sign, Show, Dc, Monitor, Replay}
+use Rattle.w32tm_text.specs.declared.words.Action.TheVariants.{Sign, Show, Dc, Member, Monitor, Replay}
+use Rattle.w32tm_text.specs.declared.words.Command.{Command}
 use Rattle.w32tm_text.specs.Words.{texts}
 
 -- the word at this place is the name of an option and then this path
@@ -15,5 +16,34 @@ abbrev pub default_port : Action → Option ℕ
 default_port (Sign account) = None
 default_port (Show bytes) = None
 default_port (Dc turns) = Some 123
+default_port (Member turns) = Some 0
 default_port Monitor = Some 0
 default_port Replay = None
+
+-- the word of the capture that a command reads: `/replay` reads it, and no other command does
+abbrev pub capture_read : Action → Option ℕ → Option ℕ
+capture_read Replay place = place
+capture_read action place = None
+
+-- the word of the capture that a command records: `/member` records it, and no other command does
+abbrev pub capture_recorded : Action → Option ℕ → Option ℕ
+capture_recorded (Member turns) place = place
+capture_recorded action place = None
+
+-- the words that name a file of this command, if there is a command: its settings, its keeper, and the capture that it
+-- reads or records
+abbrev pub config_by : Option Command → Option ℕ
+config_by None = None
+config_by (Some command) = command.config
+
+abbrev pub keeper_by : Option Command → Option ℕ
+keeper_by None = None
+keeper_by (Some command) = command.keeper
+
+abbrev pub read_by : Option Command → Option ℕ
+read_by None = None
+read_by (Some command) = capture_read command.action command.capture
+
+abbrev pub recorded_by : Option Command → Option ℕ
+recorded_by None = None
+recorded_by (Some command) = capture_recorded command.action command.capture

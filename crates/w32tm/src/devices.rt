@@ -1,11 +1,20 @@
 //! The devices of a command. What it names is opened, and nothing that it doesn't use; words that spell no command
 //! open nothing. What can't be opened is a device each call of which fails.
-ghost use Rattle.std.specs.Prelude.{◌≡◌, ◌++◌, ℕ, List, IfSome, IsSomeAnd, None, Some, codes, false, option_map, true, unwrap_or};
-ghost use Rattle.w32tm.specs.Devices.{HasPathAt, default_port};
+ghost use Rattle.std.specs.Prelude.{◌≡◌, ◌++◌, ℕ, List, IfOk, IfSome, IsSomeAnd, None, Some, codes, false, option_map, true, unwrap_or};
+ghost use Rattle.slot_disk.specs.File.{is_open};
+ghost use Rattle.w32tm.specs.Devices.{HasPathAt, capture_read, capture_recorded, default_port};
 ghost use Rattle.w32tm.specs.Input.{is_closed, is_standard};
+ghost use Rattle.w32tm.specs.Output.{is_file, is_null};
 
 use crate::input::Input;
-use edge_io::{ClosedSource, RandomFile, ReaderSource, UdpLink, file_source, random_file};
+use crate::output::Output;
+use edge_io::{
+    ClosedSource, FileSink, NullSink, RandomFile, ReaderSource, Sink, UdpLink, file_source,
+    random_file,
+};
+use slot_disk::FileDisk;
+use std::alloc::{AllocError, Global};
+use std::fs::File;
 use std::io::Read;
 use std::net::Net;
 use std::rt::Files;
@@ -50,6 +59,62 @@ pub(crate) fn capture_of<R: Files, I: Read + Drop>(
     }
 }
 
+/// The record of a run: the file of `/capture:`, whose path is in the word of this place, and else nothing is kept. The
+/// file isn't touched before the first write. The error is want of memory for its path.
+pub(crate) fn record_of<R: Files + Drop, O: Sink>(
+    files: R,
+    alloc: Global,
+    words: &Vec<String>,
+    place: Option<usize>,
+) -> Result<Output<O, FileSink<R>>, AllocError>
+    ensures unnamed { place ≡ None → IfOk result (λ o. is_null o ≡ true) }
+    ensures named { (at : ℕ) (path : List ℕ) → place ≡ Some at
+        → HasPathAt (codes "/capture:") words.now.items at path
+        → IfOk result (λ o. is_file o ≡ true) }
+{
+    match path_in(words, place, "/capture:") {
+        Some(path) => {
+            let path = String::from_str(alloc, path)?;
+            Ok(Output::File(FileSink::new(files, path)))
+        }
+        None => Ok(Output::Null(NullSink)),
+    }
+}
+
+/// The keeper's disk: the file of `/keeper:`, whose path is in the word of this place, and else none.
+pub(crate) fn disk_of<R: Files<File = File>>(
+    files: &R,
+    words: &Vec<String>,
+    place: Option<usize>,
+) -> FileDisk
+    ensures unnamed { place ≡ None → is_open result ≡ false }
+{
+    match path_in(words, place, "/keeper:") {
+        Some(path) => FileDisk::open(files, path),
+        None => FileDisk::without_file(),
+    }
+}
+
+/// The word of the capture that is read: `/replay` alone reads one.
+pub(crate) fn capture_read(command: &Command) -> Option<usize>
+    ensures { result ≡ capture_read command.now.action command.now.capture }
+{
+    match command.action {
+        Action::Replay => command.capture,
+        _ => None,
+    }
+}
+
+/// The word of the capture that is recorded: `/member` alone records one.
+pub(crate) fn capture_recorded(command: &Command) -> Option<usize>
+    ensures { result ≡ capture_recorded command.now.action command.now.capture }
+{
+    match command.action {
+        Action::Member(_) => command.capture,
+        _ => None,
+    }
+}
+
 /// The link, on the local port that the words name, or on that of the command.
 pub(crate) fn link_of<R: Net>(net: &R, command: Option<&Command>) -> UdpLink {
     let Some(port) = command.and_then(port_of) else {
@@ -61,11 +126,11 @@ pub(crate) fn link_of<R: Net>(net: &R, command: Option<&Command>) -> UdpLink {
     }
 }
 
-/// The random words, which `/monitor` alone draws.
+/// The random words, which `/member` and `/monitor` draw.
 pub(crate) fn entropy_of<R: Files>(files: &R, command: Option<&Command>) -> RandomFile<R::File> {
     let Some(
         Command {
-            action: Action::Monitor,
+            action: Action::Member(_) | Action::Monitor,
             ..
         },
     ) = command
@@ -108,7 +173,7 @@ fn port_of(command: &Command) -> Option<u16>
 {
     let default_port = match command.action {
         Action::Dc(_) => CONTROLLER_PORT,
-        Action::Monitor => ANY_PORT,
+        Action::Member(_) | Action::Monitor => ANY_PORT,
         Action::Sign(_) | Action::Show(_) | Action::Replay => return None,
     };
     Some(command.port.unwrap_or(default_port))
@@ -117,7 +182,10 @@ fn port_of(command: &Command) -> Option<u16>
 #[cfg(test)]
 mod tests {
     use super::*;
-    use std::alloc::{AllocError, Global};
+    use edge_io::{Addr, Drawn, Entropy, Link, Put, Receipt, Source, Take};
+    use slot_disk::Disk;
+    use std::fs;
+    use std::test::Fail;
     use w32tm_text::read_words;
 
     #[test]
@@ -125,6 +193,9 @@ mod tests {
         for (words, port) in [
             (["/dc:5", "/config:a"].as_slice(), Some(123)),
             (&["/dc:5", "/config:a", "/port:40123"], Some(40123)),
+            (&["/member:3", "/config:a", "/keeper:b"], Some(0)),
+            (&["/port:8", "/member:3", "/config:a", "/keeper:b"], None),
+            (&["/member:3", "/port:8", "/config:a", "/keeper:b"], Some(8)),
             (&["/monitor", "/config:a"], Some(0)),
             (&["/monitor", "/port:9", "/config:a"], Some(9)),
             (&["/replay", "/config:a"], None),
@@ -134,6 +205,140 @@ mod tests {
             let command = read_words(&words).ok();
             assert_eq!(rt; command.as_ref().and_then(port_of), port, "{words:?}");
         }
+        Ok(())
+    }
+
+    #[test]
+    fn captures_of_commands(rt: HostRuntime) -> Result<(), AllocError> {
+        for (words, read, recorded) in [
+            (
+                ["/replay", "/config:a", "/capture:b"].as_slice(),
+                Some(2),
+                None,
+            ),
+            (&["/replay", "/config:a"], None, None),
+            (
+                &["/member:3", "/capture:b", "/config:a", "/keeper:c"],
+                None,
+                Some(1),
+            ),
+            (&["/member:3", "/config:a", "/keeper:c"], None, None),
+            (&["/monitor", "/config:a"], None, None),
+        ] {
+            let words = owned(rt.alloc(), words)?;
+            let command = read_words(&words).ok();
+            let command = command.as_ref();
+            assert_eq!(rt; command.and_then(capture_read), read, "{words:?}");
+            assert_eq!(rt; command.and_then(capture_recorded), recorded, "{words:?}");
+        }
+        Ok(())
+    }
+
+    #[test]
+    fn records_and_keepers(rt: HostRuntime) -> Result<(), Fail> {
+        let alloc = rt.alloc();
+        let words = owned(
+            alloc,
+            &[
+                "/member:1",
+                "/capture:/no/such/capture",
+                "/keeper:/no/such/k",
+            ],
+        )?;
+        let mut record: Output<NullSink, _> = record_of(&rt, alloc, &words, Some(1))?;
+        assert_eq!(rt; record.write(b"abc"), Put::Failed);
+        record = record_of(&rt, alloc, &words, None)?;
+        assert_eq!(rt; record.write(b"abc"), Put::Done);
+        for place in [None, Some(2)] {
+            let mut disk = disk_of(&rt, &words, place);
+            assert_eq!(rt; disk.sync(), Put::Failed, "{place:?}");
+        }
+        Ok(())
+    }
+
+    // Settings and a capture that is read come from their files, and not from standard input.
+    #[test]
+    fn named_files_are_opened(rt: HostRuntime) -> Result<(), Fail> {
+        let _ = fs::remove_dir_all(&rt, "read_files");
+        fs::create_dir(&rt, "read_files")?;
+        fs::write(&rt, "read_files/a", "Rid=1103")?;
+        fs::write(&rt, "read_files/b", "events")?;
+        let words = owned(
+            rt.alloc(),
+            &["/replay", "/config:read_files/a", "/capture:read_files/b"],
+        )?;
+        let mut buf = [0; 9];
+        let mut config: Input<ReaderSource<&[u8]>, _> = config_of(&rt, &words, Some(1));
+        assert_eq!(rt; config.read(&mut buf), Take::Bytes(8));
+        assert_eq!(rt; &buf[..8], b"Rid=1103".as_slice());
+        let mut capture = capture_of(&rt, b"input".as_slice(), &words, Some(2));
+        assert_eq!(rt; capture.read(&mut buf), Take::Bytes(6));
+        assert_eq!(rt; &buf[..6], b"events".as_slice());
+        fs::remove_dir_all(&rt, "read_files")?;
+        Ok(())
+    }
+
+    // A keeper that is missing is made, of 256 zero bytes. A record is made by its first write.
+    #[test]
+    fn named_files_are_made(rt: HostRuntime) -> Result<(), Fail> {
+        let alloc = rt.alloc();
+        let _ = fs::remove_dir_all(&rt, "made_files");
+        fs::create_dir(&rt, "made_files")?;
+        let words = owned(
+            alloc,
+            &["/member:1", "/keeper:made_files/k", "/capture:made_files/c"],
+        )?;
+        let mut disk = disk_of(&rt, &words, Some(1));
+        assert_eq!(rt; disk.sync(), Put::Done);
+        assert_eq!(rt;
+            fs::read(&rt, "made_files/k")?.as_slice(),
+            [0; 256].as_slice()
+        );
+        let mut record: Output<NullSink, _> = record_of(&rt, alloc, &words, Some(2))?;
+        assert_eq!(rt; record.write(b"abc"), Put::Done);
+        assert_eq!(rt;
+            fs::read(&rt, "made_files/c")?.as_slice(),
+            b"abc".as_slice()
+        );
+        fs::remove_dir_all(&rt, "made_files")?;
+        Ok(())
+    }
+
+    #[test]
+    fn words_are_drawn_for_two_commands(rt: HostRuntime) -> Result<(), Fail> {
+        for (words, draws) in [
+            (["/member:1", "/config:a", "/keeper:b"].as_slice(), true),
+            (&["/monitor", "/config:a"], true),
+            (&["/dc:5", "/config:a"], false),
+            (&["/replay", "/config:a"], false),
+        ] {
+            let words = owned(rt.alloc(), words)?;
+            let command = read_words(&words).ok();
+            let word = entropy_of(&rt, command.as_ref()).word();
+            assert_eq!(rt; matches!(word, Drawn::Word(_)), draws, "{words:?}");
+        }
+        Ok(())
+    }
+
+    #[test]
+    fn link_is_on_the_named_port(rt: HostRuntime) -> Result<(), Fail> {
+        let alloc = rt.alloc();
+        let mut peer = UdpLink::bind(&rt, 0)?;
+        // A port that was free a moment ago.
+        let port = UdpLink::bind(&rt, 0)?.port()?;
+        let named = format!(in alloc; "/port:{port}")?;
+        let words = owned(alloc, &["/dc:1", "/config:a", named.as_str()])?;
+        let mut link = link_of(&rt, read_words(&words).ok().as_ref());
+        let to = Addr {
+            ip: 0x7F00_0001,
+            port,
+        };
+        assert_eq!(rt; peer.send(to, b"abc"), Put::Done);
+        let Receipt::Got(_, bytes) = link.recv() else {
+            assert!(rt; false, "nothing came");
+            return Ok(());
+        };
+        assert_eq!(rt; bytes.as_slice(), b"abc".as_slice());
         Ok(())
     }
 

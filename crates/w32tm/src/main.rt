@@ -1,56 +1,38 @@
-//! The program `w32tm`: it answers time requests as a domain controller does, from standard input or from the
-//! network, asks each computer of a domain for the time, prints the fields of a message that is given in hexadecimal,
-//! and prints what a member does with the events of a capture.
+//! The program `w32tm`. What it does, by its first word:
+//!
+//! - `/dc` answers the computers of a domain as their controller, and `/sign` one request on standard input;
+//! - `/member` keeps a clock by its domain, and `/replay` says what a member does with the events of a capture;
+//! - `/monitor` asks each computer of a domain for the time, and `/show` prints the fields of a message.
 //!
 //! There is little here, and all of it is the edge: the words of the command line, the devices of the machine, the line
 //! on standard error and the exit code. The work and its contract are the call `w32tm` of the crate `w32tm_cmd`; a
 //! newcomer begins there.
 //!
-//! `devices.rt` opens what a command names and uses, and nothing else. What can't be opened is handed in as a device
-//! each call of which fails. The devices are those of `edge_io`: files, standard input and output, a UDP socket, the
-//! machine's clock and its random words. `input.rt` has the one type of all that is read.
+//! `devices.rt` opens what a command names and uses, and nothing else, and `outside.rt` hands each device in under its
+//! name. What can't be opened is handed in as a device each call of which fails. The devices are those of `edge_io`:
+//! files, standard input and output, a UDP socket, the machine's clock and its random words; the keeper's disk is the
+//! file of `slot_disk`. `input.rt` has the one type of all that is read, and `output.rt` of all that is written; the
+//! definitions of each stand in `specs/` under its name.
 #![tactic(auto)]
 
 mod devices;
 mod input;
+mod output;
+mod outside;
 
-use crate::devices::{capture_of, config_of, entropy_of, link_of};
-use edge_io::{RealClock, WriterSink};
-use std::alloc::Global;
+use crate::outside::outside_of;
+use std::alloc::AllocError;
 use std::io::{ErrorKind, Write};
 use std::process::ExitCode;
 use std::rt::Env;
 use std::{env, io};
-use w32tm_cmd::{Outside, Status, status_line, w32tm};
+use w32tm_cmd::{Status, status_line, w32tm};
 use w32tm_text::read_words;
-
-/// The line on standard error and the exit code where there is no memory for the words.
-const NO_MEMORY_LINE: &[u8] = b"w32tm: no memory\n";
-
-const NO_MEMORY_CODE: u8 = 15;
 
 fn main(rt: HostRuntime) -> ExitCode {
     let status = match words(&rt) {
-        Ok(words) => {
-            // Words that spell no command open nothing, and are refused below.
-            let command = read_words(&words).ok();
-            let command = command.as_ref();
-            let config = command.and_then(|c| c.config);
-            let capture = command.and_then(|c| c.capture);
-            let mut outside = Outside {
-                config: config_of(&rt, &words, config),
-                capture_in: capture_of(&rt, rt.stdin(), &words, capture),
-                out: WriterSink::new(rt.stdout()),
-                link: link_of(&rt, command),
-                clock: RealClock::new(&rt),
-                entropy: entropy_of(&rt, command),
-            };
-            w32tm(rt.alloc(), &words, &mut outside)
-        }
-        Err(error) if error.kind() == ErrorKind::OutOfMemory => {
-            let _ = rt.stderr().write_all(NO_MEMORY_LINE);
-            return ExitCode::from(NO_MEMORY_CODE);
-        }
+        Ok(words) => run(&rt, &words).unwrap_or(Status::NoMemory),
+        Err(error) if error.kind() == ErrorKind::OutOfMemory => Status::NoMemory,
         // A word that isn't UTF-8 belongs to no command.
         Err(_) => Status::BadWords,
     };
@@ -58,6 +40,14 @@ fn main(rt: HostRuntime) -> ExitCode {
         let _ = rt.stderr().write_all(status_line(&status).as_slice());
     }
     ExitCode::from(status.code())
+}
+
+/// Carries out the command that the words spell. The error is want of memory for the path of its record.
+fn run(rt: &HostRuntime, words: &Vec<String>) -> Result<Status, AllocError> {
+    // Words that spell no command open nothing, and are refused below.
+    let command = read_words(words).ok();
+    let mut outside = outside_of(rt, rt.alloc(), rt.stdin(), rt.stdout(), words, &command)?;
+    Ok(w32tm(rt.alloc(), words, &mut outside))
 }
 
 /// The words behind the program's name. The error is `OutOfMemory` where there is no memory for them, and
@@ -68,4 +58,66 @@ fn words<R: Env + AllocGlobal>(rt: &R) -> io::Result<Vec<String>> {
         words.push(word)?;
     }
     Ok(words)
+}
+
+#[cfg(test)]
+mod tests {
+    use super::*;
+    use std::fs;
+    use std::test::Fail;
+
+    const SETTINGS: &str = "Name=WS1\nRole=Member\nRid=1103\n\
+        account 1103 000102030405060708090a0b0c0d0e0f\ncomputer DC1 127.0.0.1:9 S---\n";
+
+    // Each run ends at the file that it shows, before its first line: at the first byte of a capture, at a keeper of
+    // another version, and at a record that can't be written. The last one takes a turn, and its record is the file's.
+    #[test]
+    fn each_file_is_handed_to_its_device(rt: HostRuntime) -> Result<(), Fail> {
+        let alloc = rt.alloc();
+        let _ = fs::remove_dir_all(&rt, "run_files");
+        fs::create_dir(&rt, "run_files")?;
+        fs::write(&rt, "run_files/config", SETTINGS)?;
+        fs::write(&rt, "run_files/capture", "no events")?;
+        fs::write(&rt, "run_files/keeper", [0xA5, 2].as_slice())?;
+        for (command, place, named, status) in [
+            (
+                "/replay",
+                "/capture:run_files/capture",
+                None,
+                Status::BadCapture { at: 0 },
+            ),
+            (
+                "/member:1",
+                "/keeper:run_files/keeper",
+                None,
+                Status::BadKeeper,
+            ),
+            (
+                "/member:1",
+                "/keeper:run_files/new",
+                Some("/capture:/dev/full"),
+                Status::WriteFault,
+            ),
+            (
+                "/member:1",
+                "/keeper:run_files/new",
+                Some("/capture:run_files/events"),
+                Status::Done,
+            ),
+        ] {
+            let mut words = Vec::new(alloc);
+            for word in [command, "/config:run_files/config", place]
+                .into_iter()
+                .chain(named)
+            {
+                words.push(String::from_str(alloc, word)?)?;
+            }
+            assert_eq!(rt; run(&rt, &words)?, status, "{words:?}");
+        }
+        let events = fs::read(&rt, "run_files/events")?;
+        assert!(rt; events.len() >= 30);
+        assert!(rt; events.starts_with(b"\x01W32T"));
+        fs::remove_dir_all(&rt, "run_files")?;
+        Ok(())
+    }
 }

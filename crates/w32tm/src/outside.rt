@@ -1,0 +1,79 @@
+//! All devices of a command, each under the name of what the command does with it.
+ghost use Rattle.std.specs.Prelude.{◌≡◌, IfOk, None, false, true};
+ghost use Rattle.slot_disk.specs.File.{is_open};
+ghost use Rattle.w32tm.specs.Devices.{config_by, keeper_by, read_by, recorded_by};
+ghost use Rattle.w32tm.specs.Input.{is_closed, is_standard};
+ghost use Rattle.w32tm.specs.Output.{is_file, is_null};
+
+use crate::devices::{
+    capture_of, capture_read, capture_recorded, config_of, disk_of, entropy_of, link_of, record_of,
+};
+use crate::input::Input;
+use crate::output::Output;
+use edge_io::{FileSink, RandomFile, ReaderSource, RealClock, UdpLink, WriterSink};
+use slot_disk::FileDisk;
+use std::alloc::{AllocError, Global};
+use std::fs::File;
+use std::io::{Read, Write};
+use std::net::Net;
+use std::rt::Files;
+use std::time::Clock;
+use w32tm_cmd::Outside;
+use w32tm_text::Command;
+
+/// The devices of this command of the words, with standard input and output where it uses these. The error is want of
+/// memory for the path of its record.
+pub(crate) fn outside_of<
+    R: Files<File = File> + Net + Clock + Copy + Drop,
+    I: Read + Drop,
+    W: Write + Drop,
+>(
+    rt: R,
+    alloc: Global,
+    stdin: I,
+    stdout: W,
+    words: &Vec<String>,
+    command: &Option<Command>,
+) -> Result<
+    Outside<
+        Input<ReaderSource<I>, ReaderSource<File>>,
+        Output<WriterSink<W>, FileSink<R>>,
+        UdpLink,
+        RealClock<R>,
+        FileDisk,
+        RandomFile<File>,
+    >,
+    AllocError,
+>
+    // Settings are never read from standard input, and what is written goes nowhere else than to standard output.
+    ensures config { IfOk result (λ o. is_standard o.config ≡ false) }
+    ensures out { IfOk result (λ o. (is_file o.out ≡ false) × (is_null o.out ≡ false)) }
+
+    // What the words don't name is opened by no command.
+    ensures no_config { config_by command.now ≡ None → IfOk result (λ o. is_closed o.config ≡ true) }
+    ensures no_capture { read_by command.now ≡ None
+        → IfOk result (λ o. is_standard o.capture_in ≡ true) }
+    ensures no_record { recorded_by command.now ≡ None
+        → IfOk result (λ o. is_null o.capture_out ≡ true) }
+    ensures no_keeper { keeper_by command.now ≡ None → IfOk result (λ o. is_open o.disk ≡ false) }
+{
+    let (config, keeper, read, recorded) = match command {
+        Some(command) => (
+            command.config,
+            command.keeper,
+            capture_read(command),
+            capture_recorded(command),
+        ),
+        None => (None, None, None, None),
+    };
+    Ok(Outside {
+        config: config_of(&rt, words, config),
+        capture_in: capture_of(&rt, stdin, words, read),
+        out: Output::Standard(WriterSink::new(stdout)),
+        capture_out: record_of(rt, alloc, words, recorded)?,
+        link: link_of(&rt, command.as_ref()),
+        clock: RealClock::new(rt),
+        disk: disk_of(&rt, words, keeper),
+        entropy: entropy_of(&rt, command.as_ref()),
+    })
+}
