@@ -49,6 +49,12 @@ for command in /dc:1 /monitor /replay; do
     bad_words "$config" $command
 done
 bad_words /dc:1 /port:12300
+for word in /member /member: /member:0 /member:01 /member:1000001; do bad_words $word "$config" "/keeper:$folder/keeper"; done
+for option in "" /keeper: /keeper "/keeper:$folder/a /keeper:$folder/b" "/keeper:$folder/a /capture:" \
+    "/keeper:$folder/a /port:0" "/keeper:$folder/a /rpcport:1"; do
+    bad_words /member:1 "$config" $option
+done
+bad_words /dc:1 "$config" "/keeper:$folder/keeper"
 bad_words /dc:1 "$config" $'/port:1\xff'
 
 # Settings, by each command that reads them.
@@ -103,7 +109,25 @@ says 0 "" "total sent=0 moved=0 refused=0" /replay "/capture:/dev/null" "$member
 says 4 "w32tm: read fault" "" /replay "$member" "/capture:$folder/missing"
 says 4 "w32tm: read fault" "" /replay "$member" "/capture:$folder/folder"
 says 3 "w32tm: bad capture at byte 0" "" /replay "$member" /capture:examples/member.conf
-for words in "/dc:1 $config /port:$port" "/monitor $config" "/replay $member"; do
+
+# A member's run: settings first, then its partners, its keeper's file, its capture. Nothing answers it here.
+settings "computer DC2 127.0.0.1:$port S---" | sed 's/^Role=.*/Role=Member/' >"$folder/member.conf"
+alone="/member:1 /config:$folder/member.conf"
+keeper=/keeper:$folder/keeper
+says 4 "w32tm: read fault" "" /member:1 "/config:$folder/missing" "/keeper:$folder/missing/keeper"
+says 2 "w32tm: bad settings at line 2" "" /member:1 "/config:$folder/role" "/keeper:$folder/missing/keeper"
+says 11 "w32tm: no partner" "" /member:1 "$config" "/keeper:$folder/missing/keeper"
+for file in missing/keeper folder; do says 6 "w32tm: disk fault" "" $alone "/keeper:$folder/$file"; done
+printf '\245\011\0\0\0\0\0\100' >"$folder/version"
+printf '\245\001\0\0\377\377\377\300' >"$folder/spent"
+says 7 "w32tm: bad keeper" "" $alone "/keeper:$folder/version"
+says 8 "w32tm: stamps spent" "life mark=4294967232" $alone "/keeper:$folder/spent"
+says 0 "" "link quiet=1 lost=0" $alone "$keeper"
+for file in missing/capture folder; do says 5 "w32tm: write fault" "" $alone "$keeper" "/capture:$folder/$file"; done
+says 5 "w32tm: write fault" "" $alone "$keeper" /capture:/dev/full
+says 0 "" "link quiet=1 lost=0" $alone "$keeper" "/capture:$folder/capture"
+says 0 "" "total sent=1 moved=0 refused=0" /replay "/config:$folder/member.conf" "/capture:$folder/capture"
+for words in "/dc:1 $config /port:$port" "/monitor $config" "/replay $member" "$alone $keeper"; do
     cases=$((cases + 1))
     $program $words >/dev/full 2>"$folder/fault" </dev/null
     code=$?
