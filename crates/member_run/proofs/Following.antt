@@ -7,7 +7,7 @@ use Rattle.time_machine.specs.declared.outcome.Outcome.{Outcome}
 use Rattle.time_machine.specs.Words.{Words}
 use Rattle.time_machine.specs.Machine.{outcome_by}
 use Rattle.time_machine.specs.After.{after}
-use Rattle.slot_disk.specs.Told.{Told as DiskTold}
+use Rattle.slot_disk.specs.Told.{DiskTold}
 use Rattle.stamp_keep.specs.Keep.{KeepsMarks, mark_of}
 use Rattle.sntp_core.specs.Standing.{conf_of, words_of}
 use Rattle.sntp_core.proofs.Standings.{answer_stands}

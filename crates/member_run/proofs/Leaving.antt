@@ -2,7 +2,7 @@
 use Rattle.std.proofs.Common.{◌≡◌, ◌⊎◌, inl, inr, ◌+◌, ◌≤◌, ℕ, true, false, List, Option, Some, None, IfSome, is_some, ◌∙◌, arith}
 use Rattle.std.specs.Prelude.{IsSomeAnd}
 use Rattle.slot_disk.specs.Calls.{LeavesOnly}
-use Rattle.slot_disk.specs.Told.{IsDisk, Told as DiskTold}
+use Rattle.slot_disk.specs.Told.{DiskTold, IsDisk}
 use Rattle.stamp_keep.specs.Image.{mark_of_image}
 use Rattle.stamp_keep.specs.declared.keeper.Keeper.{Keeper}
 use Rattle.stamp_keep.specs.Keep.{Fits, IsLoadable, RefusedAsBefore, StandsAsBefore, StandsForEither, mark_of}

@@ -17,7 +17,7 @@ use Rattle.capture_fmt.specs.declared.event.Event.{Event}
 use Rattle.capture_fmt.specs.declared.event.Event.TheVariants.{Life, Tick, Resync, Arrive}
 use Rattle.capture_fmt.specs.Event.{EventFits}
 use Rattle.capture_fmt.specs.Record.{event_bytes}
-use Rattle.slot_disk.specs.Told.{Told as DiskTold}
+use Rattle.slot_disk.specs.Told.{DiskTold}
 use Rattle.stamp_keep.specs.Image.{mark_of_image}
 use Rattle.stamp_keep.specs.Keep.{IsLeft, IsLoadable, KeepsMarks, StandsAsBefore}
 use Rattle.stamp_keep.specs.Slots.{HasOtherVersion}

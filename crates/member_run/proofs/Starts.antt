@@ -4,7 +4,7 @@ use Rattle.base_specs.specs.Counts.{Fails}
 use Rattle.edge_traits.specs.Clock.{ClockTold, GaveReadings}
 use Rattle.edge_traits.specs.Link.{LinkTold}
 use Rattle.capture_fmt.specs.declared.event.Event.TheVariants.{Life}
-use Rattle.slot_disk.specs.Told.{Told as DiskTold}
+use Rattle.slot_disk.specs.Told.{DiskTold}
 use Rattle.stamp_keep.specs.Image.{mark_of_image}
 use Rattle.stamp_keep.specs.Keep.{Fits}
 use Rattle.time_machine.specs.declared.conf.Conf.{Conf}

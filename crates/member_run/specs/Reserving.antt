@@ -1,7 +1,7 @@
 -- What a run asks of its keeper.
 use Rattle.std.specs.Prelude.{◌≡◌, ◌⊎◌, ℕ, ◌+◌, ◌<◌, List, IfSome, IsSomeAnd, Result, Ok, Err, ⊤}
 use Rattle.base_specs.specs.Counts.{Fails}
-use Rattle.slot_disk.specs.Told.{Told as DiskTold}
+use Rattle.slot_disk.specs.Told.{DiskTold}
 use Rattle.stamp_keep.specs.declared.keeper.KeepFault.{KeepFault}
 use Rattle.stamp_keep.specs.declared.keeper.KeepFault.TheVariants as keep
 use Rattle.stamp_keep.specs.declared.keeper.Keeper.{Keeper}

@@ -1,6 +1,6 @@
 -- The first part of a run.
 use Rattle.std.specs.Prelude.{◌≡◌, [], IfSome, Result, Ok, Err, ⊤}
-use Rattle.slot_disk.specs.Told.{Told as DiskTold}
+use Rattle.slot_disk.specs.Told.{DiskTold}
 use Rattle.stamp_keep.specs.Image.{mark_of_image}
 use Rattle.time_machine.specs.declared.conf.Conf.{Conf}
 use Rattle.run_deeds.specs.declared.life_end.Why.{Why}

@@ -1,6 +1,6 @@
 -- So many turns, one after the other.
 use Rattle.std.specs.Prelude.{ℕ, ◌+◌, ◌*◌, ◌/◌, ◌^◌, ◌<◌, ◌≤◌, List, unwrap_or, ⊤}
-use Rattle.slot_disk.specs.Told.{Told as DiskTold}
+use Rattle.slot_disk.specs.Told.{DiskTold}
 use Rattle.stamp_keep.specs.Image.{mark_of_image}
 use Rattle.time_machine.specs.Entries.{count_of, last_of}
 use Rattle.time_machine.specs.Events.{History, mark_of}

@@ -10,7 +10,7 @@ use Rattle.edge_traits.specs.Link.{failed_receipts, failed_sends}
 use Rattle.capture_fmt.specs.declared.event.Event.{Event}
 use Rattle.capture_fmt.specs.declared.event.Event.TheVariants.{Life}
 use Rattle.capture_fmt.specs.Capture.{SpellsEvents}
-use Rattle.slot_disk.specs.Told.{Told as DiskTold}
+use Rattle.slot_disk.specs.Told.{DiskTold}
 use Rattle.stamp_keep.specs.Image.{mark_of_image}
 use Rattle.stamp_keep.specs.Keep.{IsLeft, IsLoadable, StandsAsBefore}
 use Rattle.stamp_keep.specs.Slots.{HasOtherVersion}

@@ -4,7 +4,7 @@ use Rattle.std.proofs.Common.{◌≡◌, Some}
 use Rattle.edge_traits.specs.declared.sink.Put.{Put}
 use Rattle.edge_traits.specs.declared.sink.Put.TheVariants.{Failed}
 use Rattle.slot_disk.specs.declared.file.FileDisk.{FileDisk}
-use Rattle.slot_disk.specs.Told.{Told, IsDisk}
+use Rattle.slot_disk.specs.Told.{DiskTold, IsDisk}
 
 abbrev pub calls_of : FileDisk → ℕ
 calls_of disk = disk.calls
@@ -18,7 +18,7 @@ abbrev pub is_open : FileDisk → Bool
 is_open disk = is_some disk.file
 
 -- neither content nor images
-abbrev pub file_tells : FileDisk → Told
+abbrev pub file_tells : FileDisk → DiskTold
 file_tells disk = record { content = None; may_leave = λ c. ⊥; time = calls_of disk; left_since = λ t c. ⊥ }
 
 -- a call keeps the file, and fails where there is none

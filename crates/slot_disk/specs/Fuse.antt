@@ -3,7 +3,7 @@ use Rattle.std.specs.Prelude.{◌≡◌, ℕ, ◌-◌, ◌==◌}
 use Rattle.edge_traits.specs.declared.sink.Put.{Put}
 use Rattle.slot_disk.specs.declared.fuse.FuseDisk.{FuseDisk}
 use Rattle.slot_disk.specs.declared.memory.MemoryDisk.{MemoryDisk}
-use Rattle.slot_disk.specs.Told.{Told}
+use Rattle.slot_disk.specs.Told.{DiskTold}
 use Rattle.slot_disk.specs.Memory.{GoesByPlan, memory_faults, memory_tells, plan_of}
 
 -- the disk below
@@ -11,7 +11,7 @@ abbrev pub disk_of : FuseDisk → MemoryDisk
 disk_of fuse = fuse.disk
 
 -- it tells what that disk tells
-abbrev pub fuse_tells : FuseDisk → Told
+abbrev pub fuse_tells : FuseDisk → DiskTold
 fuse_tells fuse = memory_tells (disk_of fuse)
 
 abbrev pub fuse_faults : FuseDisk → ℕ

@@ -9,13 +9,13 @@ use Rattle.slot_disk.specs.declared.moment.Moment.{Moment}
 use Rattle.slot_disk.specs.declared.memory.MemoryDisk.{MemoryDisk}
 use Rattle.slot_disk.specs.declared.memory.Turn.{Turn}
 use Rattle.slot_disk.specs.declared.memory.Turn.TheVariants as turn
-use Rattle.slot_disk.specs.Told.{Told, IsDisk}
+use Rattle.slot_disk.specs.Told.{DiskTold, IsDisk}
 use Rattle.base_specs.specs.Counts.{Fails}
 use Rattle.slot_disk.specs.Calls.{IsUnchanged, SameOutside, Ticks}
 use Rattle.slot_disk.specs.Moments.{IsImage, HadImage}
 
 -- what is told of a moment after these, and after so many calls past the room
-abbrev pub tells_of : Moment → List Moment → ℕ → Told
+abbrev pub tells_of : Moment → List Moment → ℕ → DiskTold
 tells_of now past beyond = record {
   content = Some now.bytes;
   may_leave = IsImage now;
@@ -23,7 +23,7 @@ tells_of now past beyond = record {
   left_since = λ t image. IsImage now image ⊎ HadImage (drop t past) image;
 }
 
-abbrev pub memory_tells : MemoryDisk → Told
+abbrev pub memory_tells : MemoryDisk → DiskTold
 memory_tells m = tells_of m.state m.past.items m.beyond
 
 -- how many calls have failed
@@ -50,7 +50,7 @@ GoesByPlan plan stopped time put.Failed = (plan.room ≤ time) ⊎ (is_listed pl
 
 -- What a write may leave at the least: within the room each image before with any bytes in the n from at on.
 -- Past the room a write changes nothing.
-pub record TearsByPlan (plan : Plan) (at n : ℕ) (old new : Told) : Type 0 where
+pub record TearsByPlan (plan : Plan) (at n : ℕ) (old new : DiskTold) : Type 0 where
   pub within : old.time < plan.room → (d c : List ℕ) → old.may_leave d → SameOutside at n d c → new.may_leave c
   pub past_room : plan.room ≤ old.time → IsUnchanged old new
 

@@ -2,7 +2,7 @@
 use Rattle.std.specs.Prelude.{◌≡◌, ℕ, ◌≤◌, List, length, Option, Some, IsSome}
 
 -- what a disk tells
-pub record Told : Type 1 where
+pub record DiskTold : Type 1 where
   -- what a read gives; a real file tells neither this nor any image
   pub content : Option (List ℕ)
   -- an image that a crash at this moment may leave
@@ -13,7 +13,7 @@ pub record Told : Type 1 where
   pub left_since : ℕ → List ℕ → Type 0
 
 -- what holds of a disk at every moment
-pub record IsDisk (disk : Told) : Type 0 where
+pub record IsDisk (disk : DiskTold) : Type 0 where
   -- the disk as it reads is one of its images
   pub reads_as : (c : List ℕ) → disk.content ≡ Some c → disk.may_leave c
   -- one that tells an image tells its content

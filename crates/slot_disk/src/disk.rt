@@ -9,11 +9,11 @@ use crate::Put;
 pub trait Disk {
     ghost use Rattle.std.specs.Prelude.{ℕ, ◌+◌, ◌≤◌, length};
     ghost use Rattle.edge_traits.specs.Sink.{PutCounts};
-    ghost use Rattle.slot_disk.specs.Told.{Told, IsDisk};
+    ghost use Rattle.slot_disk.specs.Told.{DiskTold, IsDisk};
     ghost use Rattle.slot_disk.specs.Calls.{Elapses, Reads, Syncs, Writes};
 
     /// Its content, what a crash may leave of it now or since a time, and the number of calls made.
-    ghost told: { Self → Told };
+    ghost told: { Self → DiskTold };
 
     /// How often a call has failed.
     ghost faults: { Self → ℕ };

@@ -1,6 +1,6 @@
 -- What a load and a reserve make of the content.
 use Rattle.std.proofs.Common.{◌≡◌, ◌≢◌, inl, inr, ⊎_elim, ℕ, ◌+◌, ◌<◌, List, [], ◌∷◌, Bool, true, false, Option, Some, None, IfSome, sym, ◌∙◌, subst, refl, arith}
-use Rattle.slot_disk.specs.Told.{Told, IsDisk}
+use Rattle.slot_disk.specs.Told.{DiskTold, IsDisk}
 use Rattle.slot_disk.specs.Calls.{Holds, Written}
 use Rattle.stamp_keep.specs.Image.{IsClosed, IsOpen}
 use Rattle.stamp_keep.specs.Keep.{Fits}
@@ -35,7 +35,7 @@ reserved k mark old mid new apart holds turns = record {
 }
 
 -- the slots of a keeper that fits are three
-pub fits_apart : (k : Keeper) (disk : Told) → IsDisk disk → Fits disk k → (c : List ℕ) → disk.content ≡ Some c → Apart k.newest k.target k.third
+pub fits_apart : (k : Keeper) (disk : DiskTold) → IsDisk disk → Fits disk k → (c : List ℕ) → disk.content ≡ Some c → Apart k.newest k.target k.third
 fits_apart k disk is fits c at = (fits.settled c (is.reads_as c at)).remembers.apart
 
 pub reserved_content : (k : Keeper) (mark : ℕ) (old mid new : Option (List ℕ)) → ((c : List ℕ) → old ≡ Some c → Apart k.newest k.target k.third) → Written (place k.target + 1) (body mark) old mid → TurnedContent (place k.target) (closing k) mid new → ReservedContent k mark old new
@@ -74,7 +74,7 @@ pub loaded_content : (k : Keeper) (image : List ℕ) (old mid new : Option (List
 loaded_content k image old mid new is same target shut = loaded k image old new same target (subst (λ c. ShutContent k.target c new) is shut)
 
 -- what the disk reads as is its one image
-pub reads_image : (image : List ℕ) (disk : Told) → IsDisk disk → IsOnlyImage image disk → (c : List ℕ) → disk.content ≡ Some c → c ≡ image
+pub reads_image : (image : List ℕ) (disk : DiskTold) → IsDisk disk → IsOnlyImage image disk → (c : List ℕ) → disk.content ≡ Some c → c ≡ image
 reads_image image disk is only c at = only.only c (is.reads_as c at)
 
 -- ---- Calls
@@ -86,7 +86,7 @@ closing_calls k = by_gate k.third_open refl
     by_gate true is = rw (closes_third k is, is) refl
     by_gate false is = rw (closes_none k is, is) refl
 
-pub reserve_made : (k : Keeper) (old mid new : Told) → MadeCalls 2 old mid → MadeCalls (gate_calls (closing k)) mid new → MadeCalls (reserve_calls k) old new
+pub reserve_made : (k : Keeper) (old mid new : DiskTold) → MadeCalls 2 old mid → MadeCalls (gate_calls (closing k)) mid new → MadeCalls (reserve_calls k) old new
 reserve_made k old mid new first second room =
     let calls = closing_calls k in
     let one = first (omega (arith, room, calls)) in
@@ -96,7 +96,7 @@ by_content : (P : List ℕ → Type 0) (content : Option (List ℕ)) (image : Li
 by_content P (Some c) image same p = subst P same p
 by_content P None image same p = tt
 
-pub load_made : (k : Keeper) (image : List ℕ) (old mid new : Told) → HasRead image old mid → ShutIn k.target image mid new → LoadedIn k old new
+pub load_made : (k : Keeper) (image : List ℕ) (old mid new : DiskTold) → HasRead image old mid → ShutIn k.target image mid new → LoadedIn k old new
 load_made k image old mid new read shut = record {
   left = by_content (λ c. IsClosed c (place k.target) → MadeCalls 2 old new) old.content image read.bytes left;
   closed = by_content (λ c. IsOpen c (place k.target) → MadeCalls 4 old new) old.content image read.bytes closed;

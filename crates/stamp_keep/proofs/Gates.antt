@@ -3,7 +3,7 @@ use Rattle.std.proofs.Common.{◌≡◌, ◌≢◌, inl, inr, ℕ, ◌+◌, List
 use Rattle.std.proofs.lemmas.Bool.{cases_lt}
 use Rattle.edge_traits.specs.declared.sink.Put.{Put}
 use Rattle.edge_traits.specs.declared.sink.Put.TheVariants.{Done}
-use Rattle.slot_disk.specs.Told.{Told, IsDisk}
+use Rattle.slot_disk.specs.Told.{DiskTold, IsDisk}
 use Rattle.slot_disk.specs.Calls.{Elapses, SameOutside, Holds, LeavesOnly, Syncs, TearsAtMost, Writes, Written}
 use Rattle.stamp_keep.specs.Steps.{SameBut, HasTurned, TurnedContent}
 use Rattle.stamp_keep.proofs.Moments.{goes_on, started}
@@ -21,12 +21,12 @@ both_same gate at other old mid new is first second = record {
   rest = λ k ne no. but_one at mid new second k (λ e. no (is ∙ ap Some (sym e))) ∙ but_one gate old mid first k ne;
 }
 
-pub one_turned : (gate : ℕ) (other : Option ℕ) (old new : Told) → TearsAtMost gate 1 old new → (c : List ℕ) → new.may_leave c → HasTurned old gate other c
+pub one_turned : (gate : ℕ) (other : Option ℕ) (old new : DiskTold) → TearsAtMost gate 1 old new → (c : List ℕ) → new.may_leave c → HasTurned old gate other c
 one_turned gate other old new tears c left =
     let from = tears.each c left in
     record { from = from.0; was = from.1; same = one_same gate other from.0 c from.2 }
 
-pub both_turned : (gate at : ℕ) (other : Option ℕ) (old mid new : Told) → other ≡ Some at → TearsAtMost gate 1 old mid → TearsAtMost at 1 mid new → (c : List ℕ) → new.may_leave c → HasTurned old gate other c
+pub both_turned : (gate at : ℕ) (other : Option ℕ) (old mid new : DiskTold) → other ≡ Some at → TearsAtMost gate 1 old mid → TearsAtMost at 1 mid new → (c : List ℕ) → new.may_leave c → HasTurned old gate other c
 both_turned gate at other old mid new is first second c left =
     let half = second.each c left in
     let from = first.each half.0 half.1 in
@@ -58,11 +58,11 @@ both_content gate at other (Some old) (Some mid) None is first second = absurd s
 both_content gate at other None None (Some new) is first second = absurd second
 
 -- what was there before is turned too
-pub unturned : (gate : ℕ) (other : Option ℕ) (disk : Told) (c : List ℕ) → disk.may_leave c → HasTurned disk gate other c
+pub unturned : (gate : ℕ) (other : Option ℕ) (disk : DiskTold) (c : List ℕ) → disk.may_leave c → HasTurned disk gate other c
 unturned gate other disk c left = record { from = c; was = left; same = record { size = refl; rest = λ k ne no. refl } }
 
 -- both gates are written
-pub half_moments : (gate at : ℕ) (other : Option ℕ) (a b : Put) (old mid new : Told) → IsDisk old → other ≡ Some at
+pub half_moments : (gate at : ℕ) (other : Option ℕ) (a b : Put) (old mid new : DiskTold) → IsDisk old → other ≡ Some at
     → Writes a gate (165 ∷ []) old mid → Elapses old mid → Writes b at (0 ∷ []) mid new → Elapses mid new
     → LeavesOnly old new (HasTurned old gate other)
 half_moments gate at other a b old mid new disk is first went second goes =
@@ -70,7 +70,7 @@ half_moments gate at other a b old mid new disk is first went second goes =
     goes_on (goes_on start went (one_turned gate other old mid first.tears)) goes (both_turned gate at other old mid new is first.tears second.tears)
 
 -- .. and synced
-pub both_moments : (gate at : ℕ) (other : Option ℕ) (a b c : Put) (old mid new end : Told) → IsDisk old → other ≡ Some at
+pub both_moments : (gate at : ℕ) (other : Option ℕ) (a b c : Put) (old mid new end : DiskTold) → IsDisk old → other ≡ Some at
     → Writes a gate (165 ∷ []) old mid → Elapses old mid → Writes b at (0 ∷ []) mid new → Elapses mid new → Syncs c new end → Elapses new end
     → LeavesOnly old end (HasTurned old gate other)
 both_moments gate at other a b c old mid new end disk is first went second goes sync ends =
@@ -78,13 +78,13 @@ both_moments gate at other a b c old mid new end disk is first went second goes 
     (λ image left. both_turned gate at other old mid new is first.tears second.tears image (sync.no_other.was image left))
 
 -- one gate is written and synced
-pub one_turns : {T E : Type 0} (r : Result T E) (gate : ℕ) (other : Option ℕ) (a b : Put) (old mid new : Told) → other ≡ None
+pub one_turns : {T E : Type 0} (r : Result T E) (gate : ℕ) (other : Option ℕ) (a b : Put) (old mid new : DiskTold) → other ≡ None
     → a ≡ Done → Writes a gate (165 ∷ []) old mid → OnOk r (b ≡ Done) → Syncs b mid new → OnOk r (TurnedContent gate other old.content new.content)
 one_turns (Ok x) gate other a b old mid new none wrote first done sync = rw (sync.content done) (one_content gate other old.content mid.content none (first.content wrote))
 one_turns (Err e) gate other a b old mid new none wrote first done sync = tt
 
 -- both are
-pub both_turn : {T E : Type 0} (r : Result T E) (gate at : ℕ) (other : Option ℕ) (a b c : Put) (old mid new end : Told) → other ≡ Some at
+pub both_turn : {T E : Type 0} (r : Result T E) (gate at : ℕ) (other : Option ℕ) (a b c : Put) (old mid new end : DiskTold) → other ≡ Some at
     → a ≡ Done → Writes a gate (165 ∷ []) old mid → b ≡ Done → Writes b at (0 ∷ []) mid new → OnOk r (c ≡ Done) → Syncs c new end
     → OnOk r (TurnedContent gate other old.content end.content)
 both_turn (Ok x) gate at other a b c old mid new end is wrote first closed second done sync = rw (sync.content done) (both_content gate at other old.content mid.content new.content is (first.content wrote) (second.content closed))

@@ -1,6 +1,6 @@
 -- What a load leaves on the disk at each step.
 use Rattle.std.proofs.Common.{◌≡◌, ⊎_elim, ℕ, ◌+◌, ◌-◌, ◌^◌, ◌≤◌, ◌<◌, List, [], ◌∷◌, Option, Some, None, IfSome, sym, ◌∙◌, ap, subst, refl, arith}
-use Rattle.slot_disk.specs.Told.{Told, IsDisk}
+use Rattle.slot_disk.specs.Told.{DiskTold, IsDisk}
 use Rattle.slot_disk.specs.Calls.{NoOther, Holds, IsSynced, LeavesOnly, SameOutside, Written}
 use Rattle.stamp_keep.specs.Image.{IsClosed, IsOpen, mark_of_image}
 use Rattle.stamp_keep.specs.Slots.{place, IsOurs, Remembers, Settles}
@@ -14,10 +14,10 @@ use Rattle.stamp_keep.proofs.Staging.{fits_all, written_some}
 use Rattle.stamp_keep.proofs.Surveys.{torn_ours, torn_remembers}
 
 -- an image of the disk was made from itself
-still : (disk : Told) (c : List ℕ) → disk.may_leave c → IsMadeFrom disk c
+still : (disk : DiskTold) (c : List ℕ) → disk.may_leave c → IsMadeFrom disk c
 still disk c left = record { from = c; was = left; mark = refl; refused = λ other. other; unused = record { same = λ at free. refl } }
 
-module _ (k : Keeper) (image : List ℕ) (old : Told) (remembers : Remembers k image) (ours : IsOurs k image) (all : IsOnlyImage image old) (disk : IsDisk old) where
+module _ (k : Keeper) (image : List ℕ) (old : DiskTold) (remembers : Remembers k image) (ours : IsOurs k image) (all : IsOnlyImage image old) (disk : IsDisk old) where
   -- nothing is written where the target is closed
   pub closed_fits : IsClosed image (place k.target) → Fits old k
   closed_fits shut = fits_all k old disk (λ c left. subst (λ d. Settles k d) (sym (all.only c left)) (record { remembers = remembers; version = ours; target = shut }))
@@ -39,11 +39,11 @@ module _ (k : Keeper) (image : List ℕ) (old : Told) (remembers : Remembers k i
       }
 
   -- the gate of an open target is torn
-  pub shut_moments : (new : Told) → IsOpen image (place k.target) → LeavesOnly old new (IsTornFrom old (place k.target) 1) → LeavesOnly old new (IsMadeFrom old)
+  pub shut_moments : (new : DiskTold) → IsOpen image (place k.target) → LeavesOnly old new (IsTornFrom old (place k.target) 1) → LeavesOnly old new (IsMadeFrom old)
   shut_moments new is_open run = weaker run (torn_stands is_open)
 
   -- .. and then closed
-  pub shut_fits : (new : Told) → IsDisk new → IsOpen image (place k.target) → Written (place k.target) (0 ∷ []) old.content new.content → IsSynced new → Fits new k
+  pub shut_fits : (new : DiskTold) → IsDisk new → IsOpen image (place k.target) → Written (place k.target) (0 ∷ []) old.content new.content → IsSynced new → Fits new k
   shut_fits new after is_open written synced = fits_all k new after settled
     where
       settled : (c : List ℕ) → new.may_leave c → Settles k c
@@ -58,7 +58,7 @@ module _ (k : Keeper) (image : List ℕ) (old : Told) (remembers : Remembers k i
             target = shut;
           }
 
-module _ (old : Told) where
+module _ (old : DiskTold) where
   as_before : (c : List ℕ) → IsMadeFrom old c → StandsAsBefore old c
   as_before c made = record { from = made.from; was = made.was; same = made.mark }
 
@@ -69,7 +69,7 @@ module _ (old : Told) where
   keeps_unused c made = record { from = made.from; was = made.was; same = made.unused }
 
   -- the disk was read, and not written
-  module _ (new : Told) (run : LeavesOnly old new old.may_leave) where
+  module _ (new : DiskTold) (run : LeavesOnly old new old.may_leave) where
     read_made : LeavesOnly old new (IsMadeFrom old)
     read_made = weaker run (still old)
 
@@ -83,7 +83,7 @@ module _ (old : Told) where
     read_unused = weaker read_made keeps_unused
 
   -- .. and then a gate was closed
-  module _ (mid new : Told) (crash : NoOther old mid) (first : LeavesOnly old mid old.may_leave) (second : LeavesOnly mid new (IsMadeFrom mid)) where
+  module _ (mid new : DiskTold) (crash : NoOther old mid) (first : LeavesOnly old mid old.may_leave) (second : LeavesOnly mid new (IsMadeFrom mid)) where
     load_made : LeavesOnly old new (IsMadeFrom old)
     load_made = and_then first second (still old) (λ c made. record { from = made.from; was = crash.was made.from made.was; mark = made.mark; refused = made.refused; unused = made.unused })
 
@@ -101,10 +101,10 @@ content_stands : (content : Option (List ℕ)) (image : List ℕ) → IfSome con
 content_stands (Some c) image same = ap mark_of_image same
 content_stands None image same = tt
 
-pub read_begins : (old new : Told) → LeavesFromFirst old new (IsContent old) → LeavesFromFirst old new (StandsAsRead old)
+pub read_begins : (old new : DiskTold) → LeavesFromFirst old new (IsContent old) → LeavesFromFirst old new (StandsAsRead old)
 read_begins old new first = record { each = λ room calls c left. record { same = content_stands old.content c (first.each room calls c left).same } }
 
-pub load_begins : (image : List ℕ) (old mid new : Told) → LeavesFromFirst old mid (IsContent old) → HasRead image old mid → LeavesOnly mid new (IsMadeFrom mid) → LeavesFromFirst old new (StandsAsRead old)
+pub load_begins : (image : List ℕ) (old mid new : DiskTold) → LeavesFromFirst old mid (IsContent old) → HasRead image old mid → LeavesOnly mid new (IsMadeFrom mid) → LeavesFromFirst old new (StandsAsRead old)
 load_begins image old mid new first read second = record { each = stands }
   where
     made_stands : (c : List ℕ) → IsMadeFrom mid c → StandsAsRead old c

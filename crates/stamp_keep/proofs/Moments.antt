@@ -1,16 +1,16 @@
 -- How a run of disk calls goes on.
 use Rattle.std.proofs.Common.{◌≡◌, inl, inr, ⊎_elim, ℕ, ◌+◌, ◌-◌, ◌^◌, ◌≤◌, ◌<◌, List, Option, Some, None, IfSome, OnOk, Result, Ok, Err, refl, sym, ◌∙◌, arith}
-use Rattle.slot_disk.specs.Told.{Told, IsDisk}
+use Rattle.slot_disk.specs.Told.{DiskTold, IsDisk}
 use Rattle.slot_disk.specs.Calls.{Elapses, IsSynced, IsUnchanged, LeavesOnly}
 use Rattle.stamp_keep.specs.Keep.{LeavesFromFirst}
 use Rattle.stamp_keep.specs.Steps.{IsContent}
 
 -- before the first call
-pub started : (old : Told) (P : List ℕ → Type 0) → IsDisk old → ((c : List ℕ) → old.may_leave c → P c) → LeavesOnly old old P
+pub started : (old : DiskTold) (P : List ℕ → Type 0) → IsDisk old → ((c : List ℕ) → old.may_leave c → P c) → LeavesOnly old old P
 started old P disk here = record { later = omega arith; tells = refl; each = λ c left. here c (disk.only_now c left); before = λ t c le left. inl left }
 
 -- one call more, after which a crash leaves what has P
-pub goes_on : {old mid new : Told} {P : List ℕ → Type 0} → LeavesOnly old mid P → Elapses mid new → ((c : List ℕ) → new.may_leave c → P c) → LeavesOnly old new P
+pub goes_on : {old mid new : DiskTold} {P : List ℕ → Type 0} → LeavesOnly old mid P → Elapses mid new → ((c : List ℕ) → new.may_leave c → P c) → LeavesOnly old new P
 goes_on {old = old} so_far call here = record {
   later = omega (arith, so_far.later, call.time.later);
   tells = call.tells ∙ so_far.tells;
@@ -19,7 +19,7 @@ goes_on {old = old} so_far call here = record {
 }
 
 -- a run of calls and then another, each with what a crash leaves in it
-pub and_then : {old mid new : Told} {P Q R : List ℕ → Type 0} → LeavesOnly old mid P → LeavesOnly mid new Q → ((c : List ℕ) → P c → R c) → ((c : List ℕ) → Q c → R c) → LeavesOnly old new R
+pub and_then : {old mid new : DiskTold} {P Q R : List ℕ → Type 0} → LeavesOnly old mid P → LeavesOnly mid new Q → ((c : List ℕ) → P c → R c) → ((c : List ℕ) → Q c → R c) → LeavesOnly old new R
 and_then {old = old} first second from_first from_second = record {
   later = omega (arith, first.later, second.later);
   tells = second.tells ∙ first.tells;
@@ -28,7 +28,7 @@ and_then {old = old} first second from_first from_second = record {
 }
 
 -- the same run, with less said of what it leaves
-pub weaker : {old new : Told} {P R : List ℕ → Type 0} → LeavesOnly old new P → ((c : List ℕ) → P c → R c) → LeavesOnly old new R
+pub weaker : {old new : DiskTold} {P R : List ℕ → Type 0} → LeavesOnly old new P → ((c : List ℕ) → P c → R c) → LeavesOnly old new R
 weaker run from = record {
   later = run.later;
   tells = run.tells;
@@ -47,7 +47,7 @@ on_ok_both (Ok x) p q both = both p q
 on_ok_both (Err e) p q both = tt
 
 -- one call alone
-pub one_call : (old new : Told) (P : List ℕ → Type 0) → Elapses old new → LeavesFromFirst old new P
+pub one_call : (old new : DiskTold) (P : List ℕ → Type 0) → Elapses old new → LeavesFromFirst old new P
 one_call old new P call = record { each = λ room calls c left. absurd (omega (arith, calls, call.time.once)) }
 
 is_content : (content : Option (List ℕ)) (c : List ℕ) → content ≡ Some c → IfSome content (λ d. c ≡ d)
@@ -55,7 +55,7 @@ is_content (Some d) c is = cc
 is_content None c is = tt
 
 -- a sync that is done, and then a read
-pub sync_then_read : (old mid new : Told) → IsDisk mid → Elapses old mid → mid.content ≡ old.content → IsSynced mid → Elapses mid new → IsUnchanged mid new → LeavesFromFirst old new (IsContent old)
+pub sync_then_read : (old mid new : DiskTold) → IsDisk mid → Elapses old mid → mid.content ≡ old.content → IsSynced mid → Elapses mid new → IsUnchanged mid new → LeavesFromFirst old new (IsContent old)
 sync_then_read old mid new disk sync same synced read stays = record { each = stands }
   where
     stands : old.time < 2 ^ 64 - 2 → old.time + 2 ≤ new.time → (c : List ℕ) → new.left_since (old.time + 1) c → IsContent old c

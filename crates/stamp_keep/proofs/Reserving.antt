@@ -1,6 +1,6 @@
 -- What a reserve leaves, once its two halves are done.
 use Rattle.std.proofs.Common.{inl, inr, ⊎_elim, ℕ, ◌≤◌, List, ◌∙◌, arith}
-use Rattle.slot_disk.specs.Told.{Told, IsDisk}
+use Rattle.slot_disk.specs.Told.{DiskTold, IsDisk}
 use Rattle.slot_disk.specs.Calls.{LeavesOnly}
 use Rattle.stamp_keep.specs.Keep.{Fits, IsLoadable, KeepsMarks, KeepsUnused, StandsForEither}
 use Rattle.stamp_keep.specs.Steps.{IsMadeOr, IsStaging, KeepsSettled}
@@ -9,7 +9,7 @@ use Rattle.stamp_keep.proofs.Moments.{and_then, weaker}
 use Rattle.stamp_keep.proofs.Slots.{ours_loads, remembers_stands}
 
 -- a moment of the first half
-module _ (k : Keeper) (old : Told) where
+module _ (k : Keeper) (old : DiskTold) where
   stands : (mark : ℕ) (c : List ℕ) → IsStaging k old c → StandsForEither k.mark mark c
   stands mark c is = inl (remembers_stands k c is.settled.remembers)
 
@@ -19,7 +19,7 @@ module _ (k : Keeper) (old : Told) where
   unused : (c : List ℕ) → IsStaging k old c → KeepsUnused old c
   unused c is = record { from = is.from; was = is.was; same = is.unused }
 
-  module _ (new : Told) (first : KeepsSettled k old new) where
+  module _ (new : DiskTold) (first : KeepsSettled k old new) where
     pub stage_marks : (mark : ℕ) → LeavesOnly old new (StandsForEither k.mark mark)
     stage_marks mark = weaker first.run (stands mark)
 
@@ -37,7 +37,7 @@ module _ (k : Keeper) (old : Told) where
     }
 
   -- a moment of both halves
-  module _ (mark : ℕ) (mid new : Told) (disk : IsDisk mid) (first : KeepsSettled k old mid) (second : LeavesOnly mid new (IsMadeOr mark mid)) where
+  module _ (mark : ℕ) (mid new : DiskTold) (disk : IsDisk mid) (first : KeepsSettled k old mid) (second : LeavesOnly mid new (IsMadeOr mark mid)) where
     -- an image after the first half
     after_first : (c : List ℕ) → mid.may_leave c → IsStaging k old c
     after_first c left = first.run.each c (disk.counts_now old.time c first.run.later left)

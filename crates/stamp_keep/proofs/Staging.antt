@@ -1,6 +1,6 @@
 -- What the two halves of a reserve leave on the disk.
 use Rattle.std.proofs.Common.{◌≡◌, inl, inr, ⊎_elim, ℕ, ◌+◌, ◌^◌, ◌<◌, List, length, Option, Some, None, IfSome, sym, ◌∙◌, subst, refl, arith}
-use Rattle.slot_disk.specs.Told.{Told, IsDisk}
+use Rattle.slot_disk.specs.Told.{DiskTold, IsDisk}
 use Rattle.slot_disk.specs.Calls.{Holds, Written, IsSynced, LeavesOnly}
 use Rattle.stamp_keep.specs.Image.{mark_of_image}
 use Rattle.stamp_keep.specs.Slots.{place, Settles}
@@ -27,7 +27,7 @@ turned_some gate other (Some d) None c turns is = absurd turns
 turned_some gate other None (Some e) c turns is = absurd turns
 
 -- a keeper whose images are all settled fits
-pub fits_all : (k : Keeper) (disk : Told) → IsDisk disk → ((c : List ℕ) → disk.may_leave c → Settles k c) → Fits disk k
+pub fits_all : (k : Keeper) (disk : DiskTold) → IsDisk disk → ((c : List ℕ) → disk.may_leave c → Settles k c) → Fits disk k
 fits_all k disk is settled = record {
   settled = settled;
   stands = stands;
@@ -43,7 +43,7 @@ fits_all k disk is settled = record {
     stands c left = remembers_stands k c (settled c left).remembers
 
 -- a torn body leaves what the keeper remembers
-stage_leaves : (k : Keeper) (old : Told) → Fits old k → (c : List ℕ) → IsTornFrom old (place k.target + 1) 7 c → IsStaging k old c
+stage_leaves : (k : Keeper) (old : DiskTold) → Fits old k → (c : List ℕ) → IsTornFrom old (place k.target + 1) 7 c → IsStaging k old c
 stage_leaves k old fits c torn = record {
   from = torn.from;
   was = torn.was;
@@ -51,10 +51,10 @@ stage_leaves k old fits c torn = record {
   unused = behind_unused k.target torn.from c torn.same;
 }
 
-pub stage_moments : (k : Keeper) (piece : List ℕ) (old new : Told) → Fits old k → LeavesTorn (place k.target + 1) piece old new → length piece ≡ 7 → KeepsSettled k old new
+pub stage_moments : (k : Keeper) (piece : List ℕ) (old new : DiskTold) → Fits old k → LeavesTorn (place k.target + 1) piece old new → length piece ≡ 7 → KeepsSettled k old new
 stage_moments k piece old new fits torn is = record { run = weaker (rw is at torn.run) (stage_leaves k old fits) }
 
-pub stage_holds : (k : Keeper) (mark : ℕ) (old new : Told) → IsDisk old → Fits old k → mark < 2 ^ 32 → Written (place k.target + 1) (body mark) old.content new.content → IsSynced new → AllStaged new k mark
+pub stage_holds : (k : Keeper) (mark : ℕ) (old new : DiskTold) → IsDisk old → Fits old k → mark < 2 ^ 32 → Written (place k.target + 1) (body mark) old.content new.content → IsSynced new → AllStaged new k mark
 stage_holds k mark old new disk fits range written synced = record {
   each = λ c left.
       let from = written_some _ _ old.content new.content c written (synced.reads c left) in
@@ -68,7 +68,7 @@ stage_holds k mark old new disk fits range written synced = record {
 }
 
 -- gates that are turned, done or not, leave what an image stood for or the new mark
-turn_leaves : (k : Keeper) (mark : ℕ) (old : Told) → AllStaged old k mark → k.mark < mark → (c : List ℕ) → HasTurned old (place k.target) (closing k) c → IsMadeOr mark old c
+turn_leaves : (k : Keeper) (mark : ℕ) (old : DiskTold) → AllStaged old k mark → k.mark < mark → (c : List ℕ) → HasTurned old (place k.target) (closing k) c → IsMadeOr mark old c
 turn_leaves k mark old all lt c turned =
     let was = all.each turned.from turned.was in
     let stood = remembers_stands k turned.from was.settled.remembers in
@@ -80,10 +80,10 @@ turn_leaves k mark old all lt c turned =
       unused = turned_unused k turned.from c was.settled turned.same;
     }
 
-pub turn_moments : (k : Keeper) (mark : ℕ) (old new : Told) → AllStaged old k mark → k.mark < mark → LeavesOnly old new (HasTurned old (place k.target) (closing k)) → LeavesOnly old new (IsMadeOr mark old)
+pub turn_moments : (k : Keeper) (mark : ℕ) (old new : DiskTold) → AllStaged old k mark → k.mark < mark → LeavesOnly old new (HasTurned old (place k.target) (closing k)) → LeavesOnly old new (IsMadeOr mark old)
 turn_moments k mark old new all lt run = weaker run (turn_leaves k mark old all lt)
 
-pub turn_fits : (k : Keeper) (mark : ℕ) (old new : Told) → IsDisk old → IsDisk new → AllStaged old k mark → k.mark < mark → TurnedContent (place k.target) (closing k) old.content new.content → IsSynced new → Fits new (next k mark)
+pub turn_fits : (k : Keeper) (mark : ℕ) (old new : DiskTold) → IsDisk old → IsDisk new → AllStaged old k mark → k.mark < mark → TurnedContent (place k.target) (closing k) old.content new.content → IsSynced new → Fits new (next k mark)
 turn_fits k mark old new disk after all lt turned synced = fits_all (next k mark) new after settled
   where
     settled : (c : List ℕ) → new.may_leave c → Settles (next k mark) c

@@ -2,7 +2,7 @@
 use Rattle.std.specs.Prelude.{◌≡◌, ◌≢◌, ℕ, ◌+◌, ◌-◌, ◌^◌, ◌<◌, if◌then◌else◌, true, ⊤}
 use Rattle.std.specs.Prelude.{List, ◌∷◌, slice_index, length, Option, Some, None, IfSome}
 use Rattle.byteorder.specs.Endian.{big_bytes}
-use Rattle.slot_disk.specs.Told.{Told}
+use Rattle.slot_disk.specs.Told.{DiskTold}
 use Rattle.slot_disk.specs.Calls.{LeavesOnly, NoOther, SameOutside}
 use Rattle.stamp_keep.specs.Image.{mark_at, mark_of_image}
 use Rattle.stamp_keep.specs.Keep.{IsLoadable, StandsForEither}
@@ -10,25 +10,25 @@ use Rattle.stamp_keep.specs.Slots.{place, HasOtherVersion, SameUnused, Settles}
 use Rattle.stamp_keep.specs.declared.keeper.Keeper.{Keeper}
 
 -- an image of the disk, but for the n bytes from at on
-pub record IsTornFrom (disk : Told) (at n : ℕ) (image : List ℕ) : Type 0 where
+pub record IsTornFrom (disk : DiskTold) (at n : ℕ) (image : List ℕ) : Type 0 where
   pub from : List ℕ
   pub was : disk.may_leave from
   pub same : SameOutside at n from image
 
 -- a crash at any moment leaves an image before, but for a range as long as the piece
-pub record LeavesTorn (at : ℕ) (piece : List ℕ) (old new : Told) : Type 0 where
+pub record LeavesTorn (at : ℕ) (piece : List ℕ) (old new : DiskTold) : Type 0 where
   pub run : LeavesOnly old new (IsTornFrom old at (length piece))
 
 -- this is the one image that a crash may leave
-pub record IsOnlyImage (image : List ℕ) (disk : Told) : Type 0 where
+pub record IsOnlyImage (image : List ℕ) (disk : DiskTold) : Type 0 where
   pub only : (c : List ℕ) → disk.may_leave c → c ≡ image
 
 -- it is the content
-pub record IsContent (disk : Told) (image : List ℕ) : Type 0 where
+pub record IsContent (disk : DiskTold) (image : List ℕ) : Type 0 where
   pub same : IfSome disk.content (λ c. image ≡ c)
 
 -- the disk was synced and read: this is its one image, which is one of those before, and its content
-pub record HasRead (image : List ℕ) (old new : Told) : Type 0 where
+pub record HasRead (image : List ℕ) (old new : DiskTold) : Type 0 where
   pub calls : old.time < 2 ^ 64 - 2 → new.time ≡ old.time + 2
   pub one : IsOnlyImage image new
   pub no_other : NoOther old new
@@ -41,7 +41,7 @@ pub record SameBut (gate : ℕ) (other : Option ℕ) (old new : List ℕ) : Type
   pub rest : (k : ℕ) → k ≢ gate → other ≢ Some k → slice_index new k ≡ slice_index old k
 
 -- an image of the disk, but for these gates
-pub record HasTurned (disk : Told) (gate : ℕ) (other : Option ℕ) (image : List ℕ) : Type 0 where
+pub record HasTurned (disk : DiskTold) (gate : ℕ) (other : Option ℕ) (image : List ℕ) : Type 0 where
   pub from : List ℕ
   pub was : disk.may_leave from
   pub same : SameBut gate other from image
@@ -80,14 +80,14 @@ next k mark =
     }
 
 -- the keeper remembers the image, which has the unused bytes of an image of the disk
-pub record IsStaging (k : Keeper) (disk : Told) (image : List ℕ) : Type 0 where
+pub record IsStaging (k : Keeper) (disk : DiskTold) (image : List ℕ) : Type 0 where
   pub from : List ℕ
   pub was : disk.may_leave from
   pub settled : Settles k image
   pub unused : SameUnused from image
 
 -- a crash at any moment leaves an image that the keeper remembers
-pub record KeepsSettled (k : Keeper) (old new : Told) : Type 0 where
+pub record KeepsSettled (k : Keeper) (old new : DiskTold) : Type 0 where
   pub run : LeavesOnly old new (IsStaging k old)
 
 -- the keeper remembers the image, and version 1 and the new mark stand behind the target's gate
@@ -97,12 +97,12 @@ pub record IsStaged (k : Keeper) (mark : ℕ) (image : List ℕ) : Type 0 where
   pub holds : mark_at image (place k.target) ≡ mark
 
 -- each image of the disk is staged
-pub record AllStaged (disk : Told) (k : Keeper) (mark : ℕ) : Type 0 where
+pub record AllStaged (disk : DiskTold) (k : Keeper) (mark : ℕ) : Type 0 where
   pub each : (c : List ℕ) → disk.may_leave c → IsStaged k mark c
 
 -- It was made from an image of the disk: it stands for the same mark, has another version only where that one had it,
 -- and has its unused bytes.
-pub record IsMadeFrom (disk : Told) (image : List ℕ) : Type 0 where
+pub record IsMadeFrom (disk : DiskTold) (image : List ℕ) : Type 0 where
   pub from : List ℕ
   pub was : disk.may_leave from
   pub mark : mark_of_image image ≡ mark_of_image from
@@ -111,7 +111,7 @@ pub record IsMadeFrom (disk : Told) (image : List ℕ) : Type 0 where
 
 -- It was made from an image of the disk, whose mark it stands for, or for this one. It can be loaded, and has that
 -- image's unused bytes.
-pub record IsMadeOr (mark : ℕ) (disk : Told) (image : List ℕ) : Type 0 where
+pub record IsMadeOr (mark : ℕ) (disk : DiskTold) (image : List ℕ) : Type 0 where
   pub from : List ℕ
   pub was : disk.may_leave from
   pub either : StandsForEither (mark_of_image from) mark image

@@ -1,7 +1,7 @@
 -- What a load and a reserve do: the content behind them, byte by byte, and the number of their calls.
 use Rattle.std.specs.Prelude.{◌≡◌, ◌≢◌, ◌⊎◌, ℕ, ◌+◌, ◌^◌, ◌<◌, ◌≤◌, true, if◌then◌else◌, ⊤}
 use Rattle.std.specs.Prelude.{List, [], ◌∷◌, length, slice_index, Option, Some, None, IfSome}
-use Rattle.slot_disk.specs.Told.{Told}
+use Rattle.slot_disk.specs.Told.{DiskTold}
 use Rattle.slot_disk.specs.Calls.{Holds}
 use Rattle.stamp_keep.specs.Image.{IsClosed, IsOpen}
 use Rattle.stamp_keep.specs.Slots.{IsTarget, place}
@@ -50,7 +50,7 @@ ReservedContent k mark (Some old) (Some new) = IsReserved k mark old new
 -- ---- Calls
 
 -- So many calls were made. Where the count of calls has no room for them, nothing is said.
-abbrev pub MadeCalls : ℕ → Told → Told → Type 0
+abbrev pub MadeCalls : ℕ → DiskTold → DiskTold → Type 0
 MadeCalls n old new = old.time + n < 2 ^ 64 → new.time ≡ old.time + n
 
 -- calls that turning the gates takes: a write for each, and a sync
@@ -63,11 +63,11 @@ abbrev pub reserve_calls : Keeper → ℕ
 reserve_calls k = if k.third_open then 5 else 4
 
 -- a gate that is closed takes no call, and one that is open a write and a sync
-pub record ShutIn (s : Slot) (image : List ℕ) (old new : Told) : Type 0 where
+pub record ShutIn (s : Slot) (image : List ℕ) (old new : DiskTold) : Type 0 where
   pub left : IsClosed image (place s) → MadeCalls 0 old new
   pub closed : IsOpen image (place s) → MadeCalls 2 old new
 
 -- a load makes two calls, and two more where it closes a gate
-pub record LoadedIn (k : Keeper) (old new : Told) : Type 0 where
+pub record LoadedIn (k : Keeper) (old new : DiskTold) : Type 0 where
   pub left : IfSome old.content (λ c. IsClosed c (place k.target) → MadeCalls 2 old new)
   pub closed : IfSome old.content (λ c. IsOpen c (place k.target) → MadeCalls 4 old new)

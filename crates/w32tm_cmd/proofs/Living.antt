@@ -11,7 +11,7 @@ use Rattle.run_deeds.specs.Lives.{KeptBy}
 use Rattle.run_deeds.specs.declared.life_end.LifeEnd.{LifeEnd}
 use Rattle.run_deeds.specs.declared.life_end.Why.{Why}
 use Rattle.run_deeds.specs.declared.life_end.Why.TheVariants as why
-use Rattle.slot_disk.specs.Told.{Told as DiskTold}
+use Rattle.slot_disk.specs.Told.{DiskTold}
 use Rattle.stamp_keep.specs.Image.{mark_of_image}
 use Rattle.stamp_keep.specs.Keep.{IsLoadable}
 use Rattle.stamp_keep.specs.Slots.{HasOtherVersion}

@@ -4,7 +4,7 @@ use Rattle.base_specs.specs.Told.{Added}
 use Rattle.run_deeds.specs.Closing.{link_line}
 use Rattle.run_deeds.specs.declared.life_end.Why.TheVariants as why
 use Rattle.settings_source.specs.Reading.{text_limit}
-use Rattle.slot_disk.specs.Told.{Told as DiskTold}
+use Rattle.slot_disk.specs.Told.{DiskTold}
 use Rattle.w32t_settings.specs.Answer.{AreSettingsOf}
 use Rattle.w32t_settings.specs.declared.settings.Settings.{Settings}
 use Rattle.w32tm_text.specs.declared.status.Status.{Status}

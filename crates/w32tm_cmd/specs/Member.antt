@@ -7,7 +7,7 @@ use Rattle.run_deeds.specs.declared.life_end.LifeEnd.{LifeEnd}
 use Rattle.run_deeds.specs.declared.life_end.Why.{Why}
 use Rattle.run_deeds.specs.declared.life_end.Why.TheVariants as why
 use Rattle.settings_source.specs.Reading.{text_limit}
-use Rattle.slot_disk.specs.Told.{Told as DiskTold}
+use Rattle.slot_disk.specs.Told.{DiskTold}
 use Rattle.stamp_keep.specs.Image.{mark_of_image}
 use Rattle.stamp_keep.specs.Keep.{IsLoadable}
 use Rattle.stamp_keep.specs.Slots.{HasOtherVersion}

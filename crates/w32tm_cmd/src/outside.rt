@@ -26,14 +26,14 @@ pub struct Outside<S: Source, O: Sink, L: Link, C: Clock, D: Disk, E: Entropy> {
 /// All that the devices tell at a moment, and their counts of failed calls. The clauses speak of the
 /// devices through this alone, so each device is told of under a name of its own.
 pub trait Tells {
-    ghost use Rattle.slot_disk.specs.Told.{Told};
+    ghost use Rattle.slot_disk.specs.Told.{DiskTold};
     ghost use Rattle.w32tm_cmd.specs.Seen.{Seen};
 
     /// What is told at a moment, by all but the disk.
     ghost seen: { Self → Seen };
 
     /// What the disk tells.
-    ghost disk: { Self → Told };
+    ghost disk: { Self → DiskTold };
 }
 
 impl<S: Source, O: Sink, L: Link, C: Clock, D: Disk, E: Entropy> Tells
