@@ -55,7 +55,7 @@ use Rattle.member_run.specs.Closing.{Closes}
 use Rattle.member_run.specs.Reserving.{IsLoadedFrom}
 use Rattle.member_run.specs.Starting.{HasBegun, HasStopped, IsOfStart}
 use Rattle.member_run.specs.Turning.{CallsFor, DueBy, TakesTurns}
-use Rattle.member_run.proofs.Ordered.{captured_is, ends_taken, followed_none, given_are, history_of, lines_are, moves_are, reasons_are, requests_are, reverse_last, ticks_of}
+use Rattle.member_run.proofs.Ordered.{captured_is, ends_taken, followed_none, given_are, history_of, lines_are, moves_are, reasons_are, requests_are, reverse_last, ticks_are}
 use Rattle.member_run.proofs.Blocks.{NoLife, mark_in, mark_stays, sends_in, turns_later}
 use Rattle.member_run.proofs.Parting.{stops_behind}
 use Rattle.member_run.proofs.Turning.{later_taken, loads_then, marks_then, taken_history, whole_given}
@@ -152,7 +152,7 @@ totals_are conf taken receipts tried deeds new are t = record {
   refused = up_to_last _ _ _ t.refused (ap length (ap (along (reasons_in conf) []) are ∙ sym (reasons_are conf taken)));
   quiet = up_to_last _ _ _ t.quiet refl;
   lost = up_to_last _ _ _ t.lost refl;
-  turns = up_to_last _ _ _ t.turns (ap length (ap (flat_map ticks_in) are ∙ ticks_of taken));
+  turns = up_to_last _ _ _ t.turns (ap length (ap (flat_map ticks_in) are ∙ ticks_are taken));
 }
 
 -- the history of a run from its start

@@ -36,9 +36,9 @@ pub records_of : (es : List Event) → flat_map record_in (map Take es) ≡ flat
 records_of [] = refl
 records_of (e ∷ es) = ap (λ (l : List ℕ). event_bytes e ++ l) (records_of es)
 
-pub ticks_of : (es : List Event) → flat_map ticks_in (map Take es) ≡ flat_map ticks_by es
-ticks_of [] = refl
-ticks_of (e ∷ es) = ap (λ (l : List Event). ticks_by e ++ l) (ticks_of es)
+pub ticks_are : (es : List Event) → flat_map ticks_in (map Take es) ≡ flat_map ticks_by es
+ticks_are [] = refl
+ticks_are (e ∷ es) = ap (λ (l : List Event). ticks_by e ++ l) (ticks_are es)
 
 -- what the events lead to, after what the history led to
 pub gathers : {A : Type 0} (g : Outcome → List A) (f : History → Deed → List A) (conf : Conf)

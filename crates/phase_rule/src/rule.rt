@@ -1,6 +1,6 @@
 //! The judgement of an offset, and the next poll exponent.
 ghost use Rattle.std.specs.Prelude.{◌≡◌, ◌↔◌, ◌+◌, ◌*◌, ◌^◌, ◌<◌, ◌≤◌, min, pos, ◌<ℤ◌, unsigned_abs};
-ghost use Rattle.phase_rule.specs.Rule.{IsPast, judged, next_poll, ticks_of};
+ghost use Rattle.phase_rule.specs.Rule.{IsPast, judged, next_poll, ticks_of_seconds};
 
 use crate::{Limits, NO_LIMIT};
 
@@ -38,8 +38,8 @@ pub fn judge(offset: i64, limits: &Limits) -> Judged
     ensures none { offset ≡ pos 0 → result ≡ Judged.Slew }
 
     // A slew is at most the greatest amount for one, and a step is above it.
-    ensures slew { result ≡ Judged.Slew → unsigned_abs offset ≤ ticks_of limits.now.max_allowed }
-    ensures step { result ≡ Judged.Step → ticks_of limits.now.max_allowed < unsigned_abs offset }
+    ensures slew { result ≡ Judged.Slew → unsigned_abs offset ≤ ticks_of_seconds limits.now.max_allowed }
+    ensures step { result ≡ Judged.Step → ticks_of_seconds limits.now.max_allowed < unsigned_abs offset }
 {
     let amount = offset.unsigned_abs();
     let limit = if offset < 0 {
