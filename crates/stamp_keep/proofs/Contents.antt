@@ -2,7 +2,7 @@
 use Rattle.std.proofs.Common.{◌≡◌, ◌≢◌, inl, inr, ⊎_elim, ℕ, ◌+◌, ◌<◌, List, [], ◌∷◌, Bool, true, false, Option, Some, None, IfSome, sym, ◌∙◌, subst, refl, arith}
 use Rattle.slot_disk.specs.Told.{DiskTold, IsDisk}
 use Rattle.slot_disk.specs.Calls.{Holds, Written}
-use Rattle.stamp_keep.specs.Image.{IsClosed, IsOpen}
+use Rattle.stamp_keep.specs.Image.{HasClosedGate, HasOpenGate}
 use Rattle.stamp_keep.specs.Keep.{Fits}
 use Rattle.stamp_keep.specs.Slots.{Apart, IsTarget, place}
 use Rattle.stamp_keep.specs.Steps.{HasRead, IsOnlyImage, Turns, TurnedContent, body, closing}
@@ -48,18 +48,18 @@ reserved_content k mark None None (Some new) apart holds turns = absurd turns
 
 -- ---- A load
 
-pub shut_content : (s : Slot) (image : List ℕ) (old new : Option (List ℕ)) → ((c : List ℕ) → old ≡ Some c → c ≡ image) → IsOpen image (place s) → Written (place s) (0 ∷ []) old new → ShutContent s old new
+pub shut_content : (s : Slot) (image : List ℕ) (old new : Option (List ℕ)) → ((c : List ℕ) → old ≡ Some c → c ≡ image) → HasOpenGate image (place s) → Written (place s) (0 ∷ []) old new → ShutContent s old new
 shut_content s image (Some old) (Some new) same is_open holds = record {
   closed = λ e. holds;
-  left = λ shut. absurd (shut (subst (λ d. IsOpen d (place s)) (sym (same old refl)) is_open));
+  left = λ shut. absurd (shut (subst (λ d. HasOpenGate d (place s)) (sym (same old refl)) is_open));
 }
 shut_content s image None None same is_open holds = tt
 shut_content s image (Some old) None same is_open holds = absurd holds
 shut_content s image None (Some new) same is_open holds = absurd holds
 
-pub left_content : (s : Slot) (image : List ℕ) (old : Option (List ℕ)) → ((c : List ℕ) → old ≡ Some c → c ≡ image) → IsClosed image (place s) → ShutContent s old old
+pub left_content : (s : Slot) (image : List ℕ) (old : Option (List ℕ)) → ((c : List ℕ) → old ≡ Some c → c ≡ image) → HasClosedGate image (place s) → ShutContent s old old
 left_content s image (Some old) same shut = record {
-  closed = λ e. absurd (shut (subst (λ d. IsOpen d (place s)) (same old refl) e));
+  closed = λ e. absurd (shut (subst (λ d. HasOpenGate d (place s)) (same old refl) e));
   left = λ e. refl;
 }
 left_content s image None same shut = tt
@@ -98,12 +98,12 @@ by_content P None image same p = tt
 
 pub load_made : (k : Keeper) (image : List ℕ) (old mid new : DiskTold) → HasRead image old mid → ShutIn k.target image mid new → LoadedIn k old new
 load_made k image old mid new read shut = record {
-  left = by_content (λ c. IsClosed c (place k.target) → MadeCalls 2 old new) old.content image read.bytes left;
-  closed = by_content (λ c. IsOpen c (place k.target) → MadeCalls 4 old new) old.content image read.bytes closed;
+  left = by_content (λ c. HasClosedGate c (place k.target) → MadeCalls 2 old new) old.content image read.bytes left;
+  closed = by_content (λ c. HasOpenGate c (place k.target) → MadeCalls 4 old new) old.content image read.bytes closed;
 }
   where
-    left : IsClosed image (place k.target) → MadeCalls 2 old new
+    left : HasClosedGate image (place k.target) → MadeCalls 2 old new
     left is room = let two = read.calls (omega (arith, room)) in omega (arith, two, shut.left is (omega (arith, two, room)))
 
-    closed : IsOpen image (place k.target) → MadeCalls 4 old new
+    closed : HasOpenGate image (place k.target) → MadeCalls 4 old new
     closed is room = let two = read.calls (omega (arith, room)) in omega (arith, two, shut.closed is (omega (arith, two, room)))

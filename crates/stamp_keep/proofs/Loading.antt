@@ -2,7 +2,7 @@
 use Rattle.std.proofs.Common.{◌≡◌, ⊎_elim, ℕ, ◌+◌, ◌-◌, ◌^◌, ◌≤◌, ◌<◌, List, [], ◌∷◌, Option, Some, None, IfSome, sym, ◌∙◌, ap, subst, refl, arith}
 use Rattle.slot_disk.specs.Told.{DiskTold, IsDisk}
 use Rattle.slot_disk.specs.Calls.{NoOther, Holds, IsSynced, LeavesOnly, SameOutside, Written}
-use Rattle.stamp_keep.specs.Image.{IsClosed, IsOpen, mark_of_image}
+use Rattle.stamp_keep.specs.Image.{HasClosedGate, HasOpenGate, mark_of_image}
 use Rattle.stamp_keep.specs.Slots.{place, IsOurs, Remembers, Settles}
 use Rattle.stamp_keep.specs.Keep.{Fits, KeepsUnused, LeavesFromFirst, RefusedAsBefore, StandsAsBefore, StandsAsRead}
 use Rattle.stamp_keep.specs.Steps.{HasRead, IsContent, IsMadeFrom, IsOnlyImage, IsTornFrom}
@@ -19,13 +19,13 @@ still disk c left = record { from = c; was = left; mark = refl; refused = λ oth
 
 module _ (k : Keeper) (image : List ℕ) (old : DiskTold) (remembers : Remembers k image) (ours : IsOurs k image) (all : IsOnlyImage image old) (disk : IsDisk old) where
   -- nothing is written where the target is closed
-  pub closed_fits : IsClosed image (place k.target) → Fits old k
+  pub closed_fits : HasClosedGate image (place k.target) → Fits old k
   closed_fits shut = fits_all k old disk (λ c left. subst (λ d. Settles k d) (sym (all.only c left)) (record { remembers = remembers; version = ours; target = shut }))
 
   pub closed_moments : LeavesOnly old old (IsMadeFrom old)
   closed_moments = started old (IsMadeFrom old) disk (still old)
 
-  torn_stands : IsOpen image (place k.target) → (c : List ℕ) → IsTornFrom old (place k.target) 1 c → IsMadeFrom old c
+  torn_stands : HasOpenGate image (place k.target) → (c : List ℕ) → IsTornFrom old (place k.target) 1 c → IsMadeFrom old c
   torn_stands is_open c torn =
       let same = all.only torn.from torn.was in
       let tears = subst (λ d. SameOutside (place k.target) 1 d c) same torn.same in
@@ -39,11 +39,11 @@ module _ (k : Keeper) (image : List ℕ) (old : DiskTold) (remembers : Remembers
       }
 
   -- the gate of an open target is torn
-  pub shut_moments : (new : DiskTold) → IsOpen image (place k.target) → LeavesOnly old new (IsTornFrom old (place k.target) 1) → LeavesOnly old new (IsMadeFrom old)
+  pub shut_moments : (new : DiskTold) → HasOpenGate image (place k.target) → LeavesOnly old new (IsTornFrom old (place k.target) 1) → LeavesOnly old new (IsMadeFrom old)
   shut_moments new is_open run = weaker run (torn_stands is_open)
 
   -- .. and then closed
-  pub shut_fits : (new : DiskTold) → IsDisk new → IsOpen image (place k.target) → Written (place k.target) (0 ∷ []) old.content new.content → IsSynced new → Fits new k
+  pub shut_fits : (new : DiskTold) → IsDisk new → HasOpenGate image (place k.target) → Written (place k.target) (0 ∷ []) old.content new.content → IsSynced new → Fits new k
   shut_fits new after is_open written synced = fits_all k new after settled
     where
       settled : (c : List ℕ) → new.may_leave c → Settles k c
@@ -51,7 +51,7 @@ module _ (k : Keeper) (image : List ℕ) (old : DiskTold) (remembers : Remembers
           let from = written_some _ _ old.content new.content c written (synced.reads c left) in
           let same = all.only from.0 (disk.reads_as from.0 from.1) in
           let holds = subst (λ d. Holds (place k.target) (0 ∷ []) d c) same from.2 in
-          let shut : IsClosed c (place k.target) = λ e. absurd (omega (arith, e, first_byte (place k.target) 0 image c holds)) in
+          let shut : HasClosedGate c (place k.target) = λ e. absurd (omega (arith, e, first_byte (place k.target) 0 image c holds)) in
           record {
             remembers = torn_remembers k image c remembers holds.rest is_open;
             version = torn_ours k image c remembers holds.rest ours;

@@ -4,7 +4,7 @@ use Rattle.std.proofs.lemmas.Bool.{cases_eq, cases_lt}
 use Rattle.std.proofs.lemmas.Bool.Decides.{nat_tests}
 use Rattle.byteorder.specs.Endian.{big_bytes}
 use Rattle.slot_disk.specs.Calls.{SameOutside}
-use Rattle.stamp_keep.specs.Image.{IsOpen, IsClosed, mark_at, open_mark, mark_of_image}
+use Rattle.stamp_keep.specs.Image.{HasOpenGate, HasClosedGate, mark_at, open_mark, mark_of_image}
 use Rattle.stamp_keep.specs.Slots.{place, Apart, EachSlot, IsNewest, IsOurs, IsUnused, NoneOpen, Remembers, SameUnused, Settles}
 use Rattle.stamp_keep.specs.Steps.{SameBut, Turns, body, closing, next}
 use Rattle.stamp_keep.specs.Keep.{IsLoadable, StandsForEither}
@@ -49,11 +49,11 @@ greatest image a Lowest Lowest apart = absurd (apart.third refl)
 greatest image a Middle Middle apart = absurd (apart.third refl)
 greatest image a Highest Highest apart = absurd (apart.third refl)
 
-pub open_counts : (image : List ℕ) (at : ℕ) → IsOpen image at → open_mark image at ≡ mark_at image at
+pub open_counts : (image : List ℕ) (at : ℕ) → HasOpenGate image at → open_mark image at ≡ mark_at image at
 unfolding open_mark
 open_counts image at is = rw is refl
 
-pub closed_counts : (image : List ℕ) (at : ℕ) → IsClosed image at → open_mark image at ≡ 0
+pub closed_counts : (image : List ℕ) (at : ℕ) → HasClosedGate image at → open_mark image at ≡ 0
 unfolding open_mark
 closed_counts image at shut = grind (arith, nat_tests)
 
@@ -95,24 +95,24 @@ each_apart P a Highest Highest apart x y z = absurd (apart.third refl)
 which : (a b c : Slot) → Apart a b c → (t : Slot) → (t ≡ a) ⊎ (t ≡ b) ⊎ (t ≡ c)
 which a b c apart t = at_slot (λ t. (t ≡ a) ⊎ (t ≡ b) ⊎ (t ≡ c)) (each_apart (λ t. (t ≡ a) ⊎ (t ≡ b) ⊎ (t ≡ c)) a b c apart (inl refl) (inr (inl refl)) (inr (inr refl))) t
 
-most_at : (image : List ℕ) (s : Slot) → IsNewest image s → (t : Slot) → IsOpen image (place t) → mark_at image (place t) ≤ mark_at image (place s)
-most_at image s is t = at_slot (λ t. IsOpen image (place t) → mark_at image (place t) ≤ mark_at image (place s)) is.most t
+most_at : (image : List ℕ) (s : Slot) → IsNewest image s → (t : Slot) → HasOpenGate image (place t) → mark_at image (place t) ≤ mark_at image (place s)
+most_at image s is t = at_slot (λ t. HasOpenGate image (place t) → mark_at image (place t) ≤ mark_at image (place s)) is.most t
 
-lowest_at : (image : List ℕ) (s : Slot) → IsNewest image s → (t : Slot) → place t < place s → IsOpen image (place t) → mark_at image (place t) < mark_at image (place s)
-lowest_at image s is t = at_slot (λ t. place t < place s → IsOpen image (place t) → mark_at image (place t) < mark_at image (place s)) is.lowest t
+lowest_at : (image : List ℕ) (s : Slot) → IsNewest image s → (t : Slot) → place t < place s → HasOpenGate image (place t) → mark_at image (place t) < mark_at image (place s)
+lowest_at image s is t = at_slot (λ t. place t < place s → HasOpenGate image (place t) → mark_at image (place t) < mark_at image (place s)) is.lowest t
 
-closed_at : (image : List ℕ) → NoneOpen image → (t : Slot) → IsClosed image (place t)
-closed_at image none t = at_slot (λ t. IsClosed image (place t)) none t
+closed_at : (image : List ℕ) → NoneOpen image → (t : Slot) → HasClosedGate image (place t)
+closed_at image none t = at_slot (λ t. HasClosedGate image (place t)) none t
 
 -- each slot that is open was open, with the same mark
 pub record OpensFewer (old new : List ℕ) : Type 0 where
-  pub each : (t : Slot) → IsOpen new (place t) → IsOpen old (place t) × (mark_at new (place t) ≡ mark_at old (place t))
+  pub each : (t : Slot) → HasOpenGate new (place t) → HasOpenGate old (place t) × (mark_at new (place t) ≡ mark_at old (place t))
 
-newest_on : (old new : List ℕ) (s : Slot) → IsNewest old s → OpensFewer old new → IsOpen new (place s) → IsNewest new s
+newest_on : (old new : List ℕ) (s : Slot) → IsNewest old s → OpensFewer old new → HasOpenGate new (place s) → IsNewest new s
 newest_on old new s is fewer still = record {
   is_open = still;
-  most = each_slot (λ t. IsOpen new (place t) → mark_at new (place t) ≤ mark_at new (place s)) (λ t e. omega (arith, (fewer.each t e).1, (fewer.each s still).1, most_at old s is t (fewer.each t e).0));
-  lowest = each_slot (λ t. place t < place s → IsOpen new (place t) → mark_at new (place t) < mark_at new (place s)) (λ t lt e. omega (arith, (fewer.each t e).1, (fewer.each s still).1, lowest_at old s is t lt (fewer.each t e).0));
+  most = each_slot (λ t. HasOpenGate new (place t) → mark_at new (place t) ≤ mark_at new (place s)) (λ t e. omega (arith, (fewer.each t e).1, (fewer.each s still).1, most_at old s is t (fewer.each t e).0));
+  lowest = each_slot (λ t. place t < place s → HasOpenGate new (place t) → mark_at new (place t) < mark_at new (place s)) (λ t lt e. omega (arith, (fewer.each t e).1, (fewer.each s still).1, lowest_at old s is t lt (fewer.each t e).0));
 }
 
 -- what a keeper remembers of an image it remembers of one where no other slot is open
@@ -123,7 +123,7 @@ remembers_on k old new was fewer gate_n gate_h = record {
   apart = was.apart;
   newest = λ is. newest_on old new k.newest (was.newest is) fewer (gate_n ∙ (was.newest is).is_open);
   mark = λ is. (fewer.each k.newest (gate_n ∙ (was.newest is).is_open)).1 ∙ was.mark is;
-  none = λ is. each_slot (λ t. IsClosed new (place t)) (λ t e. closed_at old (was.none is) t (fewer.each t e).0);
+  none = λ is. each_slot (λ t. HasClosedGate new (place t)) (λ t e. closed_at old (was.none is) t (fewer.each t e).0);
   no_mark = was.no_mark;
   third = λ is. gate_h ∙ was.third is;
   third_shut = λ is e. was.third_shut is (sym gate_h ∙ e);
@@ -294,7 +294,7 @@ module _ (k : Keeper) (old new : List ℕ) (was : Settles k old) (same : SameBut
         where
           by_gate : (b : Bool) → k.newest_open ≡ b → ⊥
           by_gate true e = other.2 (rw is (newest_kept (place k.newest + 1) (omega arith) (omega arith) ∙ was.version e))
-          by_gate false e = closed_at old (was.remembers.none e) k.newest (sym newest_gate ∙ (subst (λ s. IsOpen new (place s)) is other.1.is_open))
+          by_gate false e = closed_at old (was.remembers.none e) k.newest (sym newest_gate ∙ (subst (λ s. HasOpenGate new (place s)) is other.1.is_open))
 
       of_target : other.0 ≡ k.target → ⊥
       of_target is = other.2 (rw is (target_version ∙ version))
@@ -330,8 +330,8 @@ module _ (k : Keeper) (old new : List ℕ) (was : Settles k old) (same : SameBut
       apart = record { first = was.remembers.apart.third; second = λ e. was.remembers.apart.first (sym e); third = λ e. was.remembers.apart.second (sym e) };
       newest = λ is. record {
         is_open = target_open;
-        most = each_apart (λ t. IsOpen new (place t) → mark_at new (place t) ≤ mark_at new (place k.target)) _ _ _ was.remembers.apart (λ e. omega (arith, less e)) (λ e. omega arith) (λ e. absurd (shut k.third_open refl e));
-        lowest = each_apart (λ t. place t < place k.target → IsOpen new (place t) → mark_at new (place t) < mark_at new (place k.target)) _ _ _ was.remembers.apart (λ low e. less e) (λ low e. absurd (omega arith)) (λ low e. absurd (shut k.third_open refl e));
+        most = each_apart (λ t. HasOpenGate new (place t) → mark_at new (place t) ≤ mark_at new (place k.target)) _ _ _ was.remembers.apart (λ e. omega (arith, less e)) (λ e. omega arith) (λ e. absurd (shut k.third_open refl e));
+        lowest = each_apart (λ t. place t < place k.target → HasOpenGate new (place t) → mark_at new (place t) < mark_at new (place k.target)) _ _ _ was.remembers.apart (λ low e. less e) (λ low e. absurd (omega arith)) (λ low e. absurd (shut k.third_open refl e));
       };
       mark = λ is. target_mark ∙ holds;
       none = λ is. absurd (cc);
@@ -343,12 +343,12 @@ module _ (k : Keeper) (old new : List ℕ) (was : Settles k old) (same : SameBut
     target = shut k.third_open refl;
   }
     where
-      target_open : IsOpen new (place k.target)
+      target_open : HasOpenGate new (place k.target)
       target_open = turns.opened (closes_no_other k (place k.target) was.remembers.apart.third)
 
-      less : IsOpen new (place k.newest) → mark_at new (place k.newest) < mark_at new (place k.target)
+      less : HasOpenGate new (place k.newest) → mark_at new (place k.newest) < mark_at new (place k.target)
       less e = omega (arith, open_counts new (place k.newest) e, newest_still, target_mark, holds, lt)
 
-      shut : (b : Bool) → k.third_open ≡ b → IsClosed new (place k.third)
+      shut : (b : Bool) → k.third_open ≡ b → HasClosedGate new (place k.third)
       shut true open_now e = absurd (omega (arith, turns.shut (place k.third) (closes_third k open_now), e))
       shut false shut_now e = was.remembers.third_shut shut_now (sym (third_shut_kept shut_now) ∙ e)

@@ -2,7 +2,7 @@
 use Rattle.std.proofs.Common.{◌≡◌, ◌≢◌, inl, inr, ⊎_elim, ℕ, ◌+◌, ◌<◌, ◌≤◌, List, slice_index, sym, ◌∙◌, arith}
 use Rattle.std.proofs.lemmas.Bool.{cases_eq}
 use Rattle.slot_disk.specs.Calls.{SameOutside}
-use Rattle.stamp_keep.specs.Image.{IsOpen, mark_at}
+use Rattle.stamp_keep.specs.Image.{HasOpenGate, mark_at}
 use Rattle.stamp_keep.specs.Slots.{place, IsOurs, Remembers}
 use Rattle.stamp_keep.specs.declared.slot.Slot.{Slot}
 use Rattle.stamp_keep.specs.declared.keeper.Keeper.{Keeper}
@@ -23,10 +23,10 @@ module _ (k : Keeper) (old new : List ℕ) (was : Remembers k old) (same : SameO
       apart_from : (s : Slot) (j : ℕ) → place s + 1 ≤ j → j < place s + 8 → j ≢ place k.target
       apart_from s j low high e = ⊎_elim (λ at. absurd (omega (arith, at))) (λ ne. elim (far s k.target ne) [ inl le ↦ absurd (omega arith) | inr le ↦ absurd (omega arith) ]) (cases_eq (place s) (place k.target))
 
-  fewer : IsOpen old (place k.target) → OpensFewer old new
+  fewer : HasOpenGate old (place k.target) → OpensFewer old new
   fewer is_open = record { each = λ t e. (⊎_elim (λ at. rw at is_open) (λ ne. sym (gate_kept t ne) ∙ e) (cases_eq (place t) (place k.target)), mark_kept t) }
 
-  pub torn_remembers : IsOpen old (place k.target) → Remembers k new
+  pub torn_remembers : HasOpenGate old (place k.target) → Remembers k new
   torn_remembers is_open = remembers_on k old new was (fewer is_open) (gate_kept k.newest was.apart.first) (gate_kept k.third (λ e. was.apart.third (sym e)))
 
   pub torn_ours : IsOurs k old → IsOurs k new

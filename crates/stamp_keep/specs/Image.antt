@@ -4,11 +4,11 @@ use Rattle.std.specs.Prelude.{◌≡◌, ◌≢◌, ℕ, ◌+◌, max, List, sli
 use Rattle.byteorder.specs.Endian.{big_from}
 
 -- the gate is open at A5 alone
-abbrev pub IsOpen : List ℕ → ℕ → Type 0
-IsOpen image at = slice_index image at ≡ 165
+abbrev pub HasOpenGate : List ℕ → ℕ → Type 0
+HasOpenGate image at = slice_index image at ≡ 165
 
-abbrev pub IsClosed : List ℕ → ℕ → Type 0
-IsClosed image at = slice_index image at ≢ 165
+abbrev pub HasClosedGate : List ℕ → ℕ → Type 0
+HasClosedGate image at = slice_index image at ≢ 165
 
 -- the mark that a slot holds, whether or not it is open
 unfoldable pub mark_at : List ℕ → ℕ → ℕ

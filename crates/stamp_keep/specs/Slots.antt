@@ -1,6 +1,6 @@
 -- Which slot is newest, which is written next, and what a keeper remembers of them.
 use Rattle.std.specs.Prelude.{◌≡◌, ◌≢◌, ◌⊎◌, ℕ, ◌+◌, ◌<◌, ◌≤◌, List, slice_index, true, false}
-use Rattle.stamp_keep.specs.Image.{IsOpen, IsClosed, mark_at}
+use Rattle.stamp_keep.specs.Image.{HasClosedGate, HasOpenGate, mark_at}
 use Rattle.stamp_keep.specs.declared.keeper.Keeper.{Keeper}
 use Rattle.stamp_keep.specs.declared.slot.Slot.{Slot}
 use Rattle.stamp_keep.specs.declared.slot.Slot.TheVariants.{Lowest, Middle, Highest}
@@ -22,13 +22,13 @@ pub record Apart (a b c : Slot) : Type 0 where
 
 -- the open slot with the greatest mark, of equals the lowest
 pub record IsNewest (image : List ℕ) (s : Slot) : Type 0 where
-  pub is_open : IsOpen image (place s)
-  pub most : EachSlot (λ t. IsOpen image (place t) → mark_at image (place t) ≤ mark_at image (place s))
-  pub lowest : EachSlot (λ t. place t < place s → IsOpen image (place t)
+  pub is_open : HasOpenGate image (place s)
+  pub most : EachSlot (λ t. HasOpenGate image (place t) → mark_at image (place t) ≤ mark_at image (place s))
+  pub lowest : EachSlot (λ t. place t < place s → HasOpenGate image (place t)
       → mark_at image (place t) < mark_at image (place s))
 
 abbrev pub NoneOpen : List ℕ → Type 0
-NoneOpen image = EachSlot (λ t. IsClosed image (place t))
+NoneOpen image = EachSlot (λ t. HasClosedGate image (place t))
 
 -- the newest slot has a version other than 1
 abbrev pub HasOtherVersion : List ℕ → Type 0
@@ -36,12 +36,12 @@ HasOtherVersion image = (s : Slot) × IsNewest image s × (slice_index image (pl
 
 -- the lowest closed slot
 pub record IsLowestClosed (image : List ℕ) (s : Slot) : Type 0 where
-  pub is_closed : IsClosed image (place s)
-  pub lowest : EachSlot (λ t. place t < place s → IsOpen image (place t))
+  pub is_closed : HasClosedGate image (place s)
+  pub lowest : EachSlot (λ t. place t < place s → HasOpenGate image (place t))
 
 -- where all three are open, the one with the least mark, of equals the highest
 pub record IsLeast (image : List ℕ) (s : Slot) : Type 0 where
-  pub all_open : EachSlot (λ t. IsOpen image (place t))
+  pub all_open : EachSlot (λ t. HasOpenGate image (place t))
   pub least : EachSlot (λ t. mark_at image (place s) ≤ mark_at image (place t))
   pub highest : EachSlot (λ t. place s < place t → mark_at image (place s) < mark_at image (place t))
 
@@ -63,8 +63,8 @@ pub record Remembers (k : Keeper) (image : List ℕ) : Type 0 where
   pub mark : k.newest_open ≡ true → mark_at image (place k.newest) ≡ k.mark
   pub none : k.newest_open ≡ false → NoneOpen image
   pub no_mark : k.newest_open ≡ false → k.mark ≡ 0
-  pub third : k.third_open ≡ true → IsOpen image (place k.third)
-  pub third_shut : k.third_open ≡ false → IsClosed image (place k.third)
+  pub third : k.third_open ≡ true → HasOpenGate image (place k.third)
+  pub third_shut : k.third_open ≡ false → HasClosedGate image (place k.third)
 
 -- the newest slot has version 1
 abbrev pub IsOurs : Keeper → List ℕ → Type 0
@@ -74,7 +74,7 @@ IsOurs k image = k.newest_open ≡ true → slice_index image (place k.newest + 
 pub record Settles (k : Keeper) (image : List ℕ) : Type 0 where
   pub remembers : Remembers k image
   pub version : IsOurs k image
-  pub target : IsClosed image (place k.target)
+  pub target : HasClosedGate image (place k.target)
 
 -- a byte of no slot
 abbrev pub IsUnused : ℕ → Type 0

@@ -1,6 +1,6 @@
 -- What a survey of an image finds.
 use Rattle.std.specs.Prelude.{◌≡◌, ◌⊎◌, ℕ, ◌<◌, ◌≤◌, List, Bool, true, false}
-use Rattle.stamp_keep.specs.Image.{IsOpen, IsClosed, mark_at}
+use Rattle.stamp_keep.specs.Image.{HasClosedGate, HasOpenGate, mark_at}
 use Rattle.stamp_keep.specs.Slots.{place}
 use Rattle.stamp_keep.specs.declared.keeper.Keeper.{Keeper}
 use Rattle.stamp_keep.specs.declared.slot.Slot.{Slot}
@@ -8,8 +8,8 @@ use Rattle.stamp_keep.specs.declared.survey.Held.{Held}
 
 -- it holds what the image has at its slot
 pub record Shows (image : List ℕ) (held : Held) : Type 0 where
-  pub is_open : held.is_open ≡ true → IsOpen image (place held.slot)
-  pub is_shut : held.is_open ≡ false → IsClosed image (place held.slot)
+  pub is_open : held.is_open ≡ true → HasOpenGate image (place held.slot)
+  pub is_shut : held.is_open ≡ false → HasClosedGate image (place held.slot)
   pub mark : held.mark ≡ mark_at image (place held.slot)
 
 -- it is open, and has no less a mark than the other, if that is open

@@ -3,7 +3,7 @@ use Rattle.std.specs.Prelude.{◌≡◌, ◌≢◌, ◌⊎◌, ℕ, ◌+◌, ◌
 use Rattle.std.specs.Prelude.{List, [], ◌∷◌, length, slice_index, Option, Some, None, IfSome}
 use Rattle.slot_disk.specs.Told.{DiskTold}
 use Rattle.slot_disk.specs.Calls.{Holds}
-use Rattle.stamp_keep.specs.Image.{IsClosed, IsOpen}
+use Rattle.stamp_keep.specs.Image.{HasClosedGate, HasOpenGate}
 use Rattle.stamp_keep.specs.Slots.{IsTarget, place}
 use Rattle.stamp_keep.specs.Steps.{body}
 use Rattle.stamp_keep.specs.declared.keeper.Keeper.{Keeper}
@@ -11,8 +11,8 @@ use Rattle.stamp_keep.specs.declared.slot.Slot.{Slot}
 
 -- a gate is closed where it was open, and nothing else is written
 pub record IsShut (s : Slot) (old new : List ℕ) : Type 0 where
-  pub closed : IsOpen old (place s) → Holds (place s) (0 ∷ []) old new
-  pub left : IsClosed old (place s) → new ≡ old
+  pub closed : HasOpenGate old (place s) → Holds (place s) (0 ∷ []) old new
+  pub left : HasClosedGate old (place s) → new ≡ old
 
 abbrev pub ShutContent : Slot → Option (List ℕ) → Option (List ℕ) → Type 0
 ShutContent s None None = ⊤
@@ -64,10 +64,10 @@ reserve_calls k = if k.third_open then 5 else 4
 
 -- a gate that is closed takes no call, and one that is open a write and a sync
 pub record ShutIn (s : Slot) (image : List ℕ) (old new : DiskTold) : Type 0 where
-  pub left : IsClosed image (place s) → MadeCalls 0 old new
-  pub closed : IsOpen image (place s) → MadeCalls 2 old new
+  pub left : HasClosedGate image (place s) → MadeCalls 0 old new
+  pub closed : HasOpenGate image (place s) → MadeCalls 2 old new
 
 -- a load makes two calls, and two more where it closes a gate
 pub record LoadedIn (k : Keeper) (old new : DiskTold) : Type 0 where
-  pub left : IfSome old.content (λ c. IsClosed c (place k.target) → MadeCalls 2 old new)
-  pub closed : IfSome old.content (λ c. IsOpen c (place k.target) → MadeCalls 4 old new)
+  pub left : IfSome old.content (λ c. HasClosedGate c (place k.target) → MadeCalls 2 old new)
+  pub closed : IfSome old.content (λ c. HasOpenGate c (place k.target) → MadeCalls 4 old new)
