@@ -7,7 +7,7 @@ use Rattle.std.proofs.lemmas.Bool.Decides.{nat_tests}
 use Rattle.edge_traits.specs.declared.link.Receipt.{Receipt}
 use Rattle.capture_fmt.specs.declared.event.Event.{Event}
 use Rattle.capture_fmt.specs.declared.event.Event.TheVariants.{Life, Tick, Resync, Arrive}
-use Rattle.stamp_keep.specs.Keep.{mark_of}
+use Rattle.stamp_keep.specs.Keep.{kept_mark}
 use Rattle.time_machine.specs.declared.conf.Conf.{Conf}
 use Rattle.time_machine.specs.declared.outcome.Outcome.{Outcome}
 use Rattle.time_machine.specs.Events.{History}
@@ -275,7 +275,7 @@ not_zero (suc n) not = grind (arith, nat_tests)
 module _ (wait flags : ℕ) (old mid new : Running) (a b c : Seen) (history : History) (waits : wait ≢ 0)
     (stands : StandsForHistory (member_of old) history) (part : IsPart old mid (CallReading 0 flags) (behind_request 0) a b Done) (sends : SendsNone mid new) where
   same_mark : kept_of mid ≡ kept_of new
-  same_mark = sym (ap mark_of sends.keeper)
+  same_mark = sym (ap kept_mark sends.keeper)
 
   -- a call that asks for no result
   pub answers_plain : (n : ℕ) → bit_and flags 2 ≡ 0

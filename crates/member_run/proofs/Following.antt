@@ -8,7 +8,7 @@ use Rattle.time_machine.specs.Words.{Words}
 use Rattle.time_machine.specs.Machine.{outcome_by}
 use Rattle.time_machine.specs.After.{after}
 use Rattle.slot_disk.specs.Told.{DiskTold}
-use Rattle.stamp_keep.specs.Keep.{KeepsMarks, mark_of}
+use Rattle.stamp_keep.specs.Keep.{KeepsMarks, kept_mark}
 use Rattle.sntp_core.specs.Standing.{conf_of, words_of}
 use Rattle.sntp_core.proofs.Standings.{answer_stands}
 use Rattle.run_deeds.specs.declared.life_end.Why.{Why}
@@ -49,7 +49,7 @@ pub going_on : (disk : DiskTold) (old new : Running) (event : Event) (outcome : 
     → IsTaken old new event outcome → IsGoing disk new
 going_on disk old new event outcome is was room taken =
     let counts = taken_counts old new event outcome is was.begun taken in
-    let same : kept_of new ≡ kept_of old = ap mark_of taken.keeper in
+    let same : kept_of new ≡ kept_of old = ap kept_mark taken.keeper in
     record {
       begun = begun_on old new event outcome is was.begun taken;
       fits = rw taken.keeper was.fits;
@@ -152,12 +152,12 @@ covers_still old new running going keeps = record {
 -- the keeper stays
 pub cut_keeper : (old new : Running) (event : Event) → IsCut old new event → kept_of new ≡ kept_of old
 cut_keeper old new event (inl same) = ap kept_of same
-cut_keeper old new event (inr (outcome, taken)) = ap mark_of taken.keeper
+cut_keeper old new event (inr (outcome, taken)) = ap kept_mark taken.keeper
 
 -- a receipt changes nothing of it
 pub going_received : (disk : DiskTold) (old new : Running) → IsGoing disk old → SendsNone old new → IsBegun new → IsGoing disk new
 going_received disk old new was none begun =
-    let kept : kept_of new ≡ kept_of old = ap mark_of none.keeper in
+    let kept : kept_of new ≡ kept_of old = ap kept_mark none.keeper in
     record {
       begun = begun;
       fits = rw none.keeper was.fits;

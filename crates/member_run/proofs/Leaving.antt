@@ -5,7 +5,7 @@ use Rattle.slot_disk.specs.Calls.{LeavesOnly}
 use Rattle.slot_disk.specs.Told.{DiskTold, IsDisk}
 use Rattle.stamp_keep.specs.Image.{mark_of_image}
 use Rattle.stamp_keep.specs.declared.keeper.Keeper.{Keeper}
-use Rattle.stamp_keep.specs.Keep.{Fits, IsLoadable, RefusedAsBefore, StandsAsBefore, StandsForEither, mark_of}
+use Rattle.stamp_keep.specs.Keep.{Fits, IsLoadable, RefusedAsBefore, StandsAsBefore, StandsForEither, kept_mark}
 use Rattle.run_deeds.specs.Marks.{AddsNoMark, KeepsLoadable}
 use Rattle.member_run.specs.declared.running.Running.{Running}
 use Rattle.member_run.specs.Reserving.{IsLoadedFrom}
@@ -50,11 +50,11 @@ told_mark : (content : Option (List ℕ)) (image : List ℕ) (mark : ℕ) → is
 told_mark None image mark is stands same = absurd (let no : false ≡ true = is in let bad : ⊥ = cc in bad)
 told_mark (Some c) image mark is stands same = stands ∙ same
 
-pub loaded_from : (old new : DiskTold) (keeper : Keeper) (P : List ℕ → Type 0) → IsDisk new → LeavesOnly old new P → Fits new keeper → IfSome old.content (λ c. mark_of keeper ≡ mark_of_image c)
+pub loaded_from : (old new : DiskTold) (keeper : Keeper) (P : List ℕ → Type 0) → IsDisk new → LeavesOnly old new P → Fits new keeper → IfSome old.content (λ c. kept_mark keeper ≡ mark_of_image c)
     → IsLoadedFrom old new
 loaded_from old new keeper P disk run fits mark = record {
   each = λ image left.
       let is : is_some new.content ≡ true = disk.tells image left in
       let was : is_some old.content ≡ true = cc (is, run.tells) in
-      (fits.loads image left, told_mark old.content image (mark_of keeper) was (fits.stands image left) mark);
+      (fits.loads image left, told_mark old.content image (kept_mark keeper) was (fits.stands image left) mark);
 }

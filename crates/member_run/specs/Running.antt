@@ -2,7 +2,7 @@
 use Rattle.std.specs.Prelude.{◌≡◌, ◌⊎◌, ℕ, ◌+◌, ◌^◌, ◌≤◌, ◌<◌, List, IsSome, ⊤}
 use Rattle.slot_disk.specs.Told.{DiskTold}
 use Rattle.stamp_keep.specs.Image.{mark_of_image}
-use Rattle.stamp_keep.specs.Keep.{Fits, mark_of}
+use Rattle.stamp_keep.specs.Keep.{Fits, kept_mark}
 use Rattle.time_machine.specs.Events.{History}
 use Rattle.sntp_core.specs.declared.member.Member.{Member}
 use Rattle.sntp_core.specs.Standing.{StandsForHistory, conf_of, words_of}
@@ -21,7 +21,7 @@ member_of running = running.member
 
 -- the mark up to which its counts are reserved
 abbrev pub kept_of : Running → ℕ
-kept_of running = mark_of running.keeper
+kept_of running = kept_mark running.keeper
 
 -- what it came to so far
 abbrev pub totals_of : Running → LifeEnd

@@ -1,7 +1,7 @@
 //! Counts are reserved before they are sent.
 ghost use Rattle.std.specs.Prelude.{◌≡◌, ◌+◌, ◌≤◌, IfOk, IfSome, IsErrOf, OnOk};
 ghost use Rattle.stamp_keep.specs.Image.{mark_of_image};
-ghost use Rattle.stamp_keep.specs.Keep.{Fits, IsLeft, KeepsMarks, mark_of};
+ghost use Rattle.stamp_keep.specs.Keep.{Fits, IsLeft, KeepsMarks, kept_mark};
 ghost use Rattle.run_deeds.specs.declared.life_end.Why.{Why};
 ghost use Rattle.run_deeds.specs.Marks.{AddsNoMark, KeepsLoadable};
 ghost use Rattle.member_run.specs.Reserving.{DiskBlamed, IsLoadedFrom, LoadedBy, why_of_fault};
@@ -15,7 +15,7 @@ use stamp_keep::{KeepFault, Keeper};
 pub(crate) fn load<D: Disk>(disk: &mut D) -> Result<Keeper, Why>
     ensures fits { IfOk result (Fits (D.told disk.new)) }
     ensures mark { IfOk result (λ k. IfSome (D.told disk.old).content
-        (λ c. mark_of k ≡ mark_of_image c)) }
+        (λ c. kept_mark k ≡ mark_of_image c)) }
     ensures loads { LoadedBy result (D.told disk.old) }
     ensures loaded { OnOk result (IsLoadedFrom (D.told disk.old) (D.told disk.new)) }
 

@@ -10,8 +10,8 @@ use Rattle.stamp_keep.specs.declared.keeper.KeepFault.{KeepFault}
 use Rattle.stamp_keep.specs.declared.keeper.KeepFault.TheVariants as keep
 
 -- the mark up to which counts are reserved
-abbrev pub mark_of : Keeper → ℕ
-mark_of k = k.mark
+abbrev pub kept_mark : Keeper → ℕ
+kept_mark k = k.mark
 
 -- a load doesn't refuse it
 abbrev pub IsLoadable : List ℕ → Type 0
@@ -20,9 +20,9 @@ IsLoadable image = HasOtherVersion image → ⊥
 -- Each image is as the keeper remembers it, stands for its mark, and can be loaded. So does and can the content.
 pub record Fits (disk : DiskTold) (k : Keeper) : Type 0 where
   pub settled : (image : List ℕ) → disk.may_leave image → Settles k image
-  pub stands : (image : List ℕ) → disk.may_leave image → mark_of_image image ≡ mark_of k
+  pub stands : (image : List ℕ) → disk.may_leave image → mark_of_image image ≡ kept_mark k
   pub loads : (image : List ℕ) → disk.may_leave image → IsLoadable image
-  pub content : IfSome disk.content (λ c. mark_of_image c ≡ mark_of k)
+  pub content : IfSome disk.content (λ c. mark_of_image c ≡ kept_mark k)
   pub content_loads : IfSome disk.content IsLoadable
 
 -- it stands for a mark that an image of the disk stood for

@@ -4,7 +4,7 @@ ghost use Rattle.slot_disk.specs.Calls.{LeavesOnly, Written};
 ghost use Rattle.stamp_keep.specs.Image.{mark_of_image};
 ghost use Rattle.stamp_keep.specs.Keep.{Fits, IsLeft, IsLoadable, KeepCounts, KeepsMarks, KeepsUnused};
 ghost use Rattle.stamp_keep.specs.Keep.{LeavesFromFirst, RefusedAsBefore, StandsAsBefore, StandsAsRead};
-ghost use Rattle.stamp_keep.specs.Keep.{StandsForEither, mark_of};
+ghost use Rattle.stamp_keep.specs.Keep.{StandsForEither, kept_mark};
 ghost use Rattle.stamp_keep.specs.Slots.{HasOtherVersion, IsOurs, IsTarget, Remembers, place};
 ghost use Rattle.stamp_keep.specs.Steps.{AllStaged, IsMadeFrom, IsMadeOr, IsOnlyImage, KeepsSettled, TurnedContent};
 ghost use Rattle.stamp_keep.specs.Steps.{body, closing, next};
@@ -68,7 +68,7 @@ impl Keeper {
     /// another version is refused and nothing is written; after a fault of the disk it must be loaded again.
     #[tactic(auto, using(crate::proofs::Loading::load_rules))]
     pub fn load<D: Disk>(disk: &mut D) -> Result<Keeper, KeepFault>
-        ensures mark { IfOk result (λ k. IfSome (D.told disk.old).content (λ c. mark_of k ≡ mark_of_image c)) }
+        ensures mark { IfOk result (λ k. IfSome (D.told disk.old).content (λ c. kept_mark k ≡ mark_of_image c)) }
 
         // Then every image stands for the keeper's mark, and can be loaded.
         ensures fits { IfOk result (Fits (D.told disk.new)) }
@@ -105,7 +105,7 @@ impl Keeper {
 
     /// The mark up to which counts are reserved.
     pub fn mark(&self) -> u32
-        ensures { result ≡ mark_of self.now }
+        ensures { result ≡ kept_mark self.now }
     {
         self.mark
     }
@@ -115,7 +115,7 @@ impl Keeper {
     pub fn reserve<D: Disk>(&mut self, disk: &mut D) -> Result<u32, KeepFault>
         requires { Fits (D.told disk.old) self.old }
 
-        ensures mark { IfOk result (λ mark. (mark ≡ mark_of self.old + 64) × (mark_of self.new ≡ mark)) }
+        ensures mark { IfOk result (λ mark. (mark ≡ kept_mark self.old + 64) × (kept_mark self.new ≡ mark)) }
 
         // Then the content and every image stand for the new mark, and can be loaded.
         ensures fits { OnOk result (Fits (D.told disk.new) self.new) }
@@ -133,7 +133,7 @@ impl Keeper {
         ensures any_moment { LeavesOnly
             (D.told disk.old)
             (D.told disk.new)
-            (StandsForEither (mark_of self.old) (mark_of self.old + 64)) }
+            (StandsForEither (kept_mark self.old) (kept_mark self.old + 64)) }
         ensures loadable { LeavesOnly (D.told disk.old) (D.told disk.new) IsLoadable }
         ensures unused { LeavesOnly (D.told disk.old) (D.told disk.new) (KeepsUnused (D.told disk.old)) }
 
@@ -141,8 +141,8 @@ impl Keeper {
         ensures least { KeepsMarks (D.told disk.old) (D.told disk.new) }
         ensures calls { (D.told disk.new).time ≤ (D.told disk.old).time + 5 }
 
-        ensures spent { IsErrOf result KeepFault.StampsSpent → (4294967231 < mark_of self.old) × (disk.new ≡ disk.old) }
-        ensures not_spent { 4294967231 < mark_of self.old → IsErrOf result KeepFault.StampsSpent }
+        ensures spent { IsErrOf result KeepFault.StampsSpent → (4294967231 < kept_mark self.old) × (disk.new ≡ disk.old) }
+        ensures not_spent { 4294967231 < kept_mark self.old → IsErrOf result KeepFault.StampsSpent }
         ensures never_version { IsErrOf result KeepFault.BadVersion → ⊥ }
         ensures err { OnErr result (self.new ≡ self.old) }
         ensures cause { KeepCounts result (D.faults disk.old) (D.faults disk.new) }
@@ -195,15 +195,15 @@ impl Keeper {
     // Writes a greater mark, and remembers the slot that holds it as the newest.
     fn write_mark<D: Disk>(&mut self, disk: &mut D, mark: u32) -> Result<(), KeepFault>
         requires fits { Fits (D.told disk.old) self.old }
-        requires grows { mark_of self.old < mark }
-        ensures mark { OnOk result (mark_of self.new ≡ mark) }
+        requires grows { kept_mark self.old < mark }
+        ensures mark { OnOk result (kept_mark self.new ≡ mark) }
         ensures written { OnOk result (ReservedContent self.old mark
             (D.told disk.old).content (D.told disk.new).content) }
         ensures turns { OnOk result (self.new ≡ next self.old mark) }
         ensures made { OnOk result (MadeCalls (reserve_calls self.old)
             (D.told disk.old) (D.told disk.new)) }
         ensures fits { OnOk result (Fits (D.told disk.new) self.new) }
-        ensures any_moment { LeavesOnly (D.told disk.old) (D.told disk.new) (StandsForEither (mark_of self.old) mark) }
+        ensures any_moment { LeavesOnly (D.told disk.old) (D.told disk.new) (StandsForEither (kept_mark self.old) mark) }
         ensures loadable { LeavesOnly (D.told disk.old) (D.told disk.new) IsLoadable }
         ensures unused { LeavesOnly (D.told disk.old) (D.told disk.new) (KeepsUnused (D.told disk.old)) }
         ensures least { KeepsMarks (D.told disk.old) (D.told disk.new) }
@@ -237,7 +237,7 @@ impl Keeper {
     // Opens the target, which holds the mark, and closes the third slot, where it is open.
     fn switch<D: Disk>(&self, disk: &mut D, mark: u32) -> Result<(), KeepFault>
         requires staged { AllStaged (D.told disk.old) self.now mark }
-        requires grows { mark_of self.now < mark }
+        requires grows { kept_mark self.now < mark }
         ensures moments { LeavesOnly (D.told disk.old) (D.told disk.new) (IsMadeOr mark (D.told disk.old)) }
         ensures fits { OnOk result (Fits (D.told disk.new) (next self.now mark)) }
         ensures turned { OnOk result (TurnedContent (place self.now.target) (closing self.now)

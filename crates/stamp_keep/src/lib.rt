@@ -7,7 +7,7 @@
 //! slot of unknown bytes.
 //!
 //! It stands on `slot_disk` for the disk and its images (`LeavesOnly`), on `base_specs` for counts, and on
-//! `byteorder` for the mark's bytes. The layer above may rely on `mark_of` and `mark_of_image`, on `Fits`, on the
+//! `byteorder` for the mark's bytes. The layer above may rely on `kept_mark` and `mark_of_image`, on `Fits`, on the
 //! least mark of every image (`KeepsMarks`) and on the causes of each answer (`KeepCounts`, and `HasOtherVersion`
 //! of `specs/Slots.antt`, as one word), in `specs/Keep.antt` and `specs/Image.antt`. It has no word of slots: these
 //! are `specs/Slots.antt`, and the steps of a load and a reserve are `specs/Survey.antt` and `specs/Steps.antt`.

@@ -51,7 +51,7 @@ fn mark_at(image: &[u8; 256], at: u8) -> u32 {
 }
 
 /// The greatest mark of the open slots.
-fn mark_of(image: &[u8; 256]) -> u32 {
+fn greatest_mark(image: &[u8; 256]) -> u32 {
     mark_at(image, 0)
         .max(mark_at(image, 64))
         .max(mark_at(image, 128))
@@ -79,7 +79,7 @@ fn leaves_both(alloc: Global, disk: &MemoryDisk, marks: [u32; 2]) -> Result<bool
     let (mut least, mut greatest, mut loaded) = (u32::MAX, 0, true);
     for n in 0..64 {
         let image = disk.pick(n);
-        let mark = mark_of(&image);
+        let mark = greatest_mark(&image);
         least = least.min(mark);
         greatest = greatest.max(mark);
         loaded &= marks.contains(&mark);

@@ -1,6 +1,6 @@
 use Rattle.std.proofs.Common.{refl, ap}
 use Rattle.std.proofs.lemmas.Result.{err_from_is_err_and}
-use Rattle.stamp_keep.specs.Keep.{mark_of}
+use Rattle.stamp_keep.specs.Keep.{kept_mark}
 use Rattle.run_deeds.specs.Weaving.{ReadingFor, ReceiptNow, Turns, arrives, gets, lost, none, quiet}
 use Rattle.member_run.proofs.Receiving.{got_part, lost_part, quiet_part}
 use Rattle.member_run.proofs.running.Running.receive.Goals as goal
@@ -8,7 +8,7 @@ use Rattle.member_run.proofs.running.Running.receive.Goals as goal
 pub returns-in_err-arrive-in-Got-clause-part : goal.returns-in_err-arrive-in-Got-clause-part
 returns-in_err-arrive-in-Got-clause-part g c =
     let p = err_from_is_err_and c.from_residual.result c.from_residual.ensures.1 in
-    let kept = ap mark_of c.arrive.ensures.sends_none.keeper in
+    let kept = ap kept_mark c.arrive.ensures.sends_none.keeper in
     rw (p.1, p.2, kept)
     (λ left words entropy disk history stands.
     got_part _ (ReceiptNow left) (ReadingFor left c.in-Got.from c.in-Got.bytes) (Turns left) history c.arrive.new.self.member c.in-Got.from c.in-Got.bytes _ _ _ words _ _ _ _ _ _ _ _ _ _
@@ -17,7 +17,7 @@ returns-in_err-arrive-in-Got-clause-part g c =
 
 pub returns-in_ok-arrive-in-Got-clause-part : goal.returns-in_ok-arrive-in-Got-clause-part
 returns-in_ok-arrive-in-Got-clause-part g c =
-    let kept = ap mark_of c.arrive.ensures.sends_none.keeper in
+    let kept = ap kept_mark c.arrive.ensures.sends_none.keeper in
     rw kept
     (λ left words entropy disk history stands.
     got_part _ (ReceiptNow left) (ReadingFor left c.in-Got.from c.in-Got.bytes) (Turns left) history c.arrive.new.self.member c.in-Got.from c.in-Got.bytes _ _ _ words _ _ _ _ _ _ _ _ _ _

@@ -1,7 +1,7 @@
 use Rattle.std.proofs.Common.{◌≡◌, [], ◌∙◌, ap, arith, rules, w64}
 use Rattle.std.proofs.lemmas.Int.{to_z-of_z}
 use Rattle.std.proofs.lemmas.Result.{err_from_is_err_and}
-use Rattle.stamp_keep.specs.Keep.{mark_of}
+use Rattle.stamp_keep.specs.Keep.{kept_mark}
 use Rattle.run_deeds.specs.declared.life_end.Why.TheVariants.{SinkFault}
 use Rattle.member_run.proofs.Starts.{fresh_greatest, going_begun, life_cut, life_taken, no_keeper, no_life}
 use Rattle.member_run.proofs.running.Running.start.Goals as goal
@@ -21,7 +21,7 @@ returns-in_err-now-clause-begins g c =
     let kept = c.in_ok-keeper.ensures in
     rw (p.1, p.2)
     (λ next link words link_faults entropy.
-    no_life c.args.conf next _ (mark_of c.in_ok-keeper.keeper) link _ _ words _ _ link_faults _ _ entropy _ _ _ _ _ kept.mark gives.0 gives.1 gives.2 kept.cause)
+    no_life c.args.conf next _ (kept_mark c.in_ok-keeper.keeper) link _ _ words _ _ link_faults _ _ entropy _ _ _ _ _ kept.mark gives.0 gives.1 gives.2 kept.cause)
 
 pub take_life-requires-clause-admitted : goal.take_life-requires-clause-admitted
 take_life-requires-clause-admitted g c = omega (arith, fresh_greatest c.new.result c.new.ensures.stands)
@@ -38,7 +38,7 @@ returns-in_err-take_life-clause-begins g c =
     (λ next link words link_faults entropy.
     let takes = rw (time, c.mark-mark.ensures, c.nothing.ensures) at c.in_err-take_life.ensures.takes
     link (g.C.Clock.told c.read.new.clock) words link_faults (g.C.Clock.faults c.read.new.clock) entropy (g.D.Disk.faults c.load.new.disk) [] c.new.ensures.stands in
-    life_cut _ c.args.conf next _ c.in_ok-now.now (mark_of c.in_ok-keeper.keeper) link _ _ words _ _ link_faults _ _ entropy _ _ _ _ _ c.take_life.new.self.member _ _
+    life_cut _ c.args.conf next _ c.in_ok-now.now (kept_mark c.in_ok-keeper.keeper) link _ _ words _ _ link_faults _ _ entropy _ _ _ _ _ c.take_life.new.self.member _ _
     c.new.ensures.conf kept.mark gives.0 gives.1 kept.cause sink uncounted takes)
 
 pub returns-clause-begins : goal.returns-clause-begins
@@ -49,8 +49,8 @@ returns-clause-begins g c =
     λ next link words link_faults entropy.
     let takes = rw (time, c.mark-mark.ensures, c.nothing.ensures) at c.in_ok-take_life.ensures.takes
     link (g.C.Clock.told c.read.new.clock) words link_faults (g.C.Clock.faults c.read.new.clock) entropy (g.D.Disk.faults c.load.new.disk) [] c.new.ensures.stands in
-    life_taken _ c.args.conf next _ c.in_ok-now.now (mark_of c.in_ok-keeper.keeper) link _ _ words _ _ link_faults _ _ entropy _ _ _ _ _ c.take_life.new.self
-    c.new.ensures.conf kept.mark (ap mark_of c.take_life.ensures.keeper) gives.0 gives.1 kept.cause takes
+    life_taken _ c.args.conf next _ c.in_ok-now.now (kept_mark c.in_ok-keeper.keeper) link _ _ words _ _ link_faults _ _ entropy _ _ _ _ _ c.take_life.new.self
+    c.new.ensures.conf kept.mark (ap kept_mark c.take_life.ensures.keeper) gives.0 gives.1 kept.cause takes
 
 pub returns-clause-going : goal.returns-clause-going
 returns-clause-going g c =
@@ -58,5 +58,5 @@ returns-clause-going g c =
     let e = c.in_ok-take_life.ensures in
     let stands = rw (time, c.mark-mark.ensures) at e.stands [] c.new.ensures.stands in
     let last = rw c.mark-mark.ensures at e.last [] c.new.ensures.stands in
-    going_begun _ c.new.result c.take_life.new.self c.in_ok-now.now (mark_of c.in_ok-keeper.keeper) (search rules) c.new.ensures.stands e.conf stands last
-    (rw e.keeper c.in_ok-keeper.ensures.fits) (ap mark_of e.keeper)
+    going_begun _ c.new.result c.take_life.new.self c.in_ok-now.now (kept_mark c.in_ok-keeper.keeper) (search rules) c.new.ensures.stands e.conf stands last
+    (rw e.keeper c.in_ok-keeper.ensures.fits) (ap kept_mark e.keeper)

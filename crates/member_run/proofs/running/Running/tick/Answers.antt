@@ -2,7 +2,7 @@ use Rattle.std.proofs.Common.{suc, refl, ap, arith, rules, w64}
 use Rattle.std.proofs.lemmas.Int.{to_z-of_z}
 use Rattle.std.proofs.lemmas.Result.{err_from_is_err_and}
 use Rattle.capture_fmt.specs.declared.event.Event.TheVariants.{Tick}
-use Rattle.stamp_keep.specs.Keep.{mark_of}
+use Rattle.stamp_keep.specs.Keep.{kept_mark}
 use Rattle.sntp_core.specs.Standing.{conf_of, words_of}
 use Rattle.run_deeds.specs.Weaving.{ReceiptNow, Turns, WordFor, draws, none, reads}
 use Rattle.member_run.specs.Running.{member_of, totals_of}
@@ -70,7 +70,7 @@ returns-clause-part g c =
     let time = to_z-of_z w64 c.in_ok-now.now (search rules) in
     let read = c.in_ok-now.ensures.gives in
     let drew = c.in_ok-word.ensures.gives in
-    let kept = ap mark_of c.in_ok-take.ensures.taken.keeper in
+    let kept = ap kept_mark c.in_ok-take.ensures.taken.keeper in
     rw kept
     (λ left history stands.
     let takes = rw (time, member, totals) at c.in_ok-take.ensures.takes (g.E.Entropy.words c.draw.new.entropy) (g.E.Entropy.faults c.draw.new.entropy) (g.D.Disk.faults c.ensure_count.new.disk) history stands in
