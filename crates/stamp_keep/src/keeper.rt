@@ -37,11 +37,17 @@ pub enum KeepFault {
 /// writes there.
 #[derive(Clone, Copy, Debug, PartialEq, Eq)]
 pub struct Keeper {
+    /// The mark up to which counts are reserved; 0 where no slot is open.
     mark: u32,
+    /// The open slot with the greatest mark, of equals the lowest, if one is open.
     newest: Slot,
+    /// Whether that slot is open. Where it isn't, none is.
     newest_open: bool,
+    /// The slot that is written next. A load and a reserve leave it closed.
     target: Slot,
+    /// The slot that is left.
     third: Slot,
+    /// Whether that slot is open.
     third_open: bool,
 }
 
