@@ -17,7 +17,7 @@ use Rattle.monitor_run.specs.declared.why.MonitorWhy.{MonitorWhy}
 use Rattle.monitor_run.specs.declared.why.MonitorWhy.TheVariants.{Done, ClockFault, EntropyFault, WriteFault}
 use Rattle.monitor_run.specs.Asking.{Asked, Deed, Did, answered_of, deed_of, deeds_of, entries_of, finding_at, lines_of, no_deed}
 use Rattle.monitor_run.specs.Ending.{EndsBy, FailsIf, StopsAt, is_clock_fault, is_entropy_fault, is_write_fault}
-use Rattle.monitor_run.specs.Lines.{is_answered, line_of, total_line}
+use Rattle.monitor_run.specs.Lines.{computers_line, is_answered, line_of}
 use Rattle.monitor_run.specs.Monitoring.{Monitors, Seen}
 use Rattle.monitor_run.specs.Progress.{FailsToWrite, HasAsked, Reports, Stops}
 use Rattle.monitor_run.proofs.Deeds.{deeds_more, did_more, did_nothing}
@@ -127,11 +127,11 @@ as_many entries asked are =
     ap length (sym (take_all (length entries) entries (omega arith)) ∙ are) ∙ length-map asked (λ (a : Asked). a.entry)
 
 total_is : (entries : List Entry) (asked : List Asked) (answered : ℕ) → take (length entries) entries ≡ entries_of asked → answered ≡ answered_of asked
-    → total_line (length entries) answered ≡ total_line (length asked) (answered_of asked)
-total_is entries asked answered are counted = λ i. total_line (as_many entries asked are i) (counted i)
+    → computers_line (length entries) answered ≡ computers_line (length asked) (answered_of asked)
+total_is entries asked answered are counted = λ i. computers_line (as_many entries asked are i) (counted i)
 
 pub closed : (entries : List Entry) (before mid : Seen) (written : Option (List ℕ)) (write_faults : ℕ) (answered : ℕ) (line : List ℕ)
-    → HasAsked (take (length entries) entries) before mid answered → line ≡ total_line (length entries) answered
+    → HasAsked (take (length entries) entries) before mid answered → line ≡ computers_line (length entries) answered
     → Added mid.written written line → write_faults ≡ mid.write_faults
     → Monitors entries before (record mid { written = written; write_faults = write_faults }) Done
 closed entries before mid written write_faults answered line has is wrote no_fault = record {
@@ -149,11 +149,11 @@ closed entries before mid written write_faults answered line has is wrote no_fau
 }
 
 pub broke_off_total : (entries : List Entry) (before mid : Seen) (written : Option (List ℕ)) (write_faults : ℕ) (answered : ℕ) (line : List ℕ) (why : MonitorWhy)
-    → HasAsked (take (length entries) entries) before mid answered → line ≡ total_line (length entries) answered
+    → HasAsked (take (length entries) entries) before mid answered → line ≡ computers_line (length entries) answered
     → FailsToWrite line mid.written written mid.write_faults write_faults why
     → Monitors entries before (record mid { written = written; write_faults = write_faults }) why
 broke_off_total entries before mid written write_faults answered line why has is fails =
-    let total = total_line (length has.asked) (answered_of has.asked) in
+    let total = computers_line (length has.asked) (answered_of has.asked) in
     let Wrote : List ℕ → Type 0 = λ (l : List ℕ). Writes write.Failed l mid.written written in
     let wrote : Wrote total = subst Wrote (is ∙ total_is entries has.asked answered has.are has.counted) fails.wrote in
     subst (λ (w : MonitorWhy). Monitors entries before (record mid { written = written; write_faults = write_faults }) w) (sym fails.is)

@@ -10,7 +10,7 @@ use Rattle.monitor_run.specs.declared.asking.Ask.{Ask}
 use Rattle.monitor_run.specs.declared.why.MonitorWhy.{MonitorWhy}
 use Rattle.monitor_run.specs.declared.why.MonitorWhy.TheVariants.{Done, ClockFault, EntropyFault, WriteFault}
 use Rattle.monitor_run.specs.Asking.{Asked, Deed, answered_of, deed_of, finding_by, no_deed, request_sent, words_of}
-use Rattle.monitor_run.specs.Lines.{line_of, total_line}
+use Rattle.monitor_run.specs.Lines.{computers_line, line_of}
 
 -- ---- The counts
 
@@ -96,15 +96,15 @@ pub record StopsIn (why : MonitorWhy) (rest : List Entry) (deed : Deed) (text : 
 pub record Closes (asked : List Asked) (rest : List Entry) (deed : Deed) (text : List ℕ) : Type 0 where
   pub none : rest ≡ []
   pub did : deed ≡ no_deed
-  pub written : text ≡ total_line (length asked) (answered_of asked)
+  pub written : text ≡ computers_line (length asked) (answered_of asked)
 
 -- no entry is left, and the last line broke off: some front of it was written
 pub record BreaksOffTotal (asked : List Asked) (rest : List Entry) (deed : Deed) (text : List ℕ) : Type 0 where
   pub none : rest ≡ []
   pub did : deed ≡ no_deed
   pub front : ℕ
-  pub most : front ≤ length (total_line (length asked) (answered_of asked))
-  pub written : text ≡ take front (total_line (length asked) (answered_of asked))
+  pub most : front ≤ length (computers_line (length asked) (answered_of asked))
+  pub written : text ≡ take front (computers_line (length asked) (answered_of asked))
 
 -- ---- Each end
 

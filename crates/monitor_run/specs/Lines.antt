@@ -28,5 +28,5 @@ is_answered (Answered offset delay stratum) = true
 is_answered (Wrong word) = false
 
 -- the last line: how many computers were asked, and how many of their lines have no error
-abbrev pub total_line : (computers answered : ℕ) → List ℕ
-total_line computers answered = codes "total computers=" ++ decimal computers ++ codes " answered=" ++ decimal answered ++ 10 ∷ []
+abbrev pub computers_line : (computers answered : ℕ) → List ℕ
+computers_line computers answered = codes "total computers=" ++ decimal computers ++ codes " answered=" ++ decimal answered ++ 10 ∷ []

@@ -1,6 +1,6 @@
 //! The lines of the report.
 ghost use Rattle.std.specs.Prelude.{◌≡◌, ◌≤◌, ◌<◌, length};
-ghost use Rattle.monitor_run.specs.Lines.{line_of, total_line, word_text};
+ghost use Rattle.monitor_run.specs.Lines.{computers_line, line_of, word_text};
 
 use crate::finding::{Finding, Word};
 use line_text::{Line, LongLine};
@@ -36,8 +36,8 @@ pub(crate) fn line_of(name: &NameText, finding: Finding) -> LongLine
 }
 
 /// The last line: how many computers were asked, and how many answered. It has its line feed.
-pub(crate) fn total_line(computers: usize, answered: usize) -> LongLine
-    ensures text { result ≡ total_line computers answered }
+pub(crate) fn computers_line(computers: usize, answered: usize) -> LongLine
+    ensures text { result ≡ computers_line computers answered }
     ensures some { 0 < length result }
 {
     let mut line = Line::new();

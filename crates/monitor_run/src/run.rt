@@ -10,7 +10,7 @@ ghost use Rattle.monitor_run.specs.Progress.{FailsToWrite, Reports, Stops};
 use crate::MonitorWhy;
 use crate::asking::ask_computer;
 use crate::finding::Finding;
-use crate::line::{line_of, total_line};
+use crate::line::{computers_line, line_of};
 use edge_traits::{Clock, Entropy, Link, Put, Sink};
 use line_text::LongLine;
 use partner_pick::{Directory, Entry};
@@ -83,7 +83,7 @@ fn ask_all<L: Link, C: Clock, E: Entropy, O: Sink>(
             Err(why) => return why,
         }
     }
-    match write_line(&total_line(directory.len(), answered), out) {
+    match write_line(&computers_line(directory.len(), answered), out) {
         Ok(()) => MonitorWhy::Done,
         Err(why) => why,
     }

@@ -25,8 +25,8 @@ returns-in-Ok-write_line g c =
     let before = seen (devices (g.L.Link.told c.args.link.now) (g.L.Link.faults c.args.link.now) (g.C.Clock.told c.args.clock.now) (g.C.Clock.faults c.args.clock.now) (g.E.Entropy.words c.args.entropy.now) (g.E.Entropy.faults c.args.entropy.now)) (g.O.Sink.written c.args.out.now) (g.O.Sink.faults c.args.out.now) in
     let mid = seen (devices (g.L.Link.told c.loop-place.link) (g.L.Link.faults c.loop-place.link) (g.C.Clock.told c.loop-place.clock) (g.C.Clock.faults c.loop-place.clock) (g.E.Entropy.words c.loop-place.entropy) (g.E.Entropy.faults c.loop-place.entropy)) (g.O.Sink.written c.loop-place.out) (g.O.Sink.faults c.loop-place.out) in
     let Has : ℕ → Type 0 = λ (n : ℕ). HasAsked (take n c.args.directory.now) before mid c.loop-place.answered in
-    closed c.args.directory.now before mid (g.O.Sink.written c.write_line.new.out) (g.O.Sink.faults c.write_line.new.out) c.loop-place.answered c.total_line.result
-    (subst Has all c.loop-place.invariant.0) (rw c.len.ensures.len at c.total_line.ensures.text) c.in-Ok-write_line.ensures.wrote c.in-Ok-write_line.ensures.no_fault
+    closed c.args.directory.now before mid (g.O.Sink.written c.write_line.new.out) (g.O.Sink.faults c.write_line.new.out) c.loop-place.answered c.computers_line.result
+    (subst Has all c.loop-place.invariant.0) (rw c.len.ensures.len at c.computers_line.ensures.text) c.in-Ok-write_line.ensures.wrote c.in-Ok-write_line.ensures.no_fault
 
 pub returns-in-Err-write_line : goal.returns-in-Err-write_line
 returns-in-Err-write_line g c =
@@ -34,5 +34,5 @@ returns-in-Err-write_line g c =
     let before = seen (devices (g.L.Link.told c.args.link.now) (g.L.Link.faults c.args.link.now) (g.C.Clock.told c.args.clock.now) (g.C.Clock.faults c.args.clock.now) (g.E.Entropy.words c.args.entropy.now) (g.E.Entropy.faults c.args.entropy.now)) (g.O.Sink.written c.args.out.now) (g.O.Sink.faults c.args.out.now) in
     let mid = seen (devices (g.L.Link.told c.loop-place.link) (g.L.Link.faults c.loop-place.link) (g.C.Clock.told c.loop-place.clock) (g.C.Clock.faults c.loop-place.clock) (g.E.Entropy.words c.loop-place.entropy) (g.E.Entropy.faults c.loop-place.entropy)) (g.O.Sink.written c.loop-place.out) (g.O.Sink.faults c.loop-place.out) in
     let Has : ℕ → Type 0 = λ (n : ℕ). HasAsked (take n c.args.directory.now) before mid c.loop-place.answered in
-    broke_off_total c.args.directory.now before mid (g.O.Sink.written c.write_line.new.out) (g.O.Sink.faults c.write_line.new.out) c.loop-place.answered c.total_line.result c.in-Err-write_line.why
-    (subst Has all c.loop-place.invariant.0) (rw c.len.ensures.len at c.total_line.ensures.text) c.in-Err-write_line.ensures.broke_off
+    broke_off_total c.args.directory.now before mid (g.O.Sink.written c.write_line.new.out) (g.O.Sink.faults c.write_line.new.out) c.loop-place.answered c.computers_line.result c.in-Err-write_line.why
+    (subst Has all c.loop-place.invariant.0) (rw c.len.ensures.len at c.computers_line.ensures.text) c.in-Err-write_line.ensures.broke_off
