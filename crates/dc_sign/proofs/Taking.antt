@@ -18,7 +18,7 @@ use Rattle.dc_sign.specs.declared.tally.ServeWhy.{ServeWhy}
 use Rattle.dc_sign.specs.declared.tally.ServeWhy.TheVariants.{Done, ClockFault}
 use Rattle.dc_sign.specs.Counting.{counted}
 use Rattle.dc_sign.specs.Numbers.{numbers_of}
-use Rattle.dc_sign.specs.Serving.{StopsUnread, EndsBy, IsTurn, Seen, Serves, Takes, Turn, outcomes_of, readings_of, receipts_of, sends_of}
+use Rattle.dc_sign.specs.Serving.{StopsUnread, ServeEndsBy, IsTurn, Seen, Serves, Takes, Turn, outcomes_of, readings_of, receipts_of, sends_of}
 use Rattle.dc_sign.specs.Turns.{HasServed, TakesOne, TakesTurn}
 use Rattle.dc_sign.proofs.Exchanges.{exchanged_more, exchanged_none}
 use Rattle.dc_sign.proofs.Numbering.{numbers_more}
@@ -80,7 +80,7 @@ pub served_all : (accounts : List Account) (turns count : ℕ) (before now : See
     → count ≡ turns → Serves accounts turns before now numbers
 served_all accounts turns count before now numbers served all =
     let why : numbers.why ≡ Done = ap (λ (e : ServeEnd). e.why) served.counted in
-    let Ends : ServeWhy → Type 0 = λ (w : ServeWhy). EndsBy w turns (length served.taken) now now in
+    let Ends : ServeWhy → Type 0 = λ (w : ServeWhy). ServeEndsBy w turns (length served.taken) now now in
     record {
       taken = served.taken;
       behind = now;
@@ -100,7 +100,7 @@ broke_off accounts turns count before mid now numbers served fewer breaks = reco
 }
 
 -- what a run says of the counts
-link_ends : (why : ServeWhy) (turns taken : ℕ) (before now : Seen) → EndsBy why turns taken before now → before.link_faults ≤ now.link_faults
+link_ends : (why : ServeWhy) (turns taken : ℕ) (before now : Seen) → ServeEndsBy why turns taken before now → before.link_faults ≤ now.link_faults
 link_ends Done turns taken before now ends = omega (arith, ap (λ (s : Seen). s.link_faults) ends.1)
 link_ends ClockFault turns taken before now ends = omega (arith, ends.1.no_link_fault)
 
@@ -108,7 +108,7 @@ pub link_count : (accounts : List Account) (turns : ℕ) (before now : Seen) (re
 link_count accounts turns before now result serves =
     omega (arith, serves.takes.link_failed.later, link_ends result.why turns (length serves.taken) serves.behind now serves.ends)
 
-clock_ends : (why : ServeWhy) (turns taken : ℕ) (before now : Seen) → EndsBy why turns taken before now → before.clock_faults ≤ now.clock_faults
+clock_ends : (why : ServeWhy) (turns taken : ℕ) (before now : Seen) → ServeEndsBy why turns taken before now → before.clock_faults ≤ now.clock_faults
 clock_ends Done turns taken before now ends = omega (arith, ap (λ (s : Seen). s.clock_faults) ends.1)
 clock_ends ClockFault turns taken before now ends = ends.1.clock_failed.later
 
@@ -117,7 +117,7 @@ clock_count accounts turns before now result serves =
     omega (arith, serves.takes.no_clock_fault, clock_ends result.why turns (length serves.taken) serves.behind now serves.ends)
 
 -- a run that ended before its last turn has a clock whose count rose
-clock_rose : (why : ServeWhy) (turns taken : ℕ) (before now : Seen) → EndsBy why turns taken before now → why ≡ ClockFault → Rose before.clock_faults now.clock_faults
+clock_rose : (why : ServeWhy) (turns taken : ℕ) (before now : Seen) → ServeEndsBy why turns taken before now → why ≡ ClockFault → Rose before.clock_faults now.clock_faults
 clock_rose Done turns taken before now ends is = cc is
 clock_rose ClockFault turns taken before now ends is = omega (arith, ends.1.clock_failed.once)
 

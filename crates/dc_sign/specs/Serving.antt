@@ -124,14 +124,14 @@ pub record StopsUnread (before now : Seen) : Type 0 where
   pub clock_failed : Fails before.clock_faults now.clock_faults
 
 -- how a run ended, after so many turns of those asked for
-abbrev pub EndsBy : ServeWhy → ℕ → ℕ → Seen → Seen → Type 0
-EndsBy Done turns taken before now = (taken ≡ turns) × (now ≡ before)
-EndsBy ClockFault turns taken before now = (taken < turns) × StopsUnread before now
+abbrev pub ServeEndsBy : ServeWhy → ℕ → ℕ → Seen → Seen → Type 0
+ServeEndsBy Done turns taken before now = (taken ≡ turns) × (now ≡ before)
+ServeEndsBy ClockFault turns taken before now = (taken < turns) × StopsUnread before now
 
 -- a run: its turns, and how it ended behind them; what is counted are the turns alone
 pub record Serves (accounts : List Account) (turns : ℕ) (before now : Seen) (result : ServeEnd) : Type 0 where
   pub taken : List Turn
   pub behind : Seen
   pub takes : Takes accounts taken before behind
-  pub ends : EndsBy result.why turns (length taken) behind now
+  pub ends : ServeEndsBy result.why turns (length taken) behind now
   pub numbers : result ≡ numbers_of (outcomes_of taken) result.why

@@ -19,7 +19,7 @@ use Rattle.run_deeds.specs.declared.life_end.Why.{Why}
 use Rattle.run_deeds.specs.declared.life_end.Why.TheVariants.{Done, DiskFault, BadVersion, StampsSpent, ClockFault, EntropyFault, SinkFault}
 use Rattle.run_deeds.specs.Weaving.{Need, Start, Turns, WordFor, ReceiptNow, ReadingFor, Call, CallReading, CallWord, Round, RoundReading, Weaves, none, call_reads, call_draws, behind_request}
 use Rattle.run_deeds.specs.Deeds.{Deed, Take, Ending, along, all_done, history_after}
-use Rattle.run_deeds.specs.Devices.{EndsBy, Faults, IsBehind, IsBetween, IsInCalls, NeedsReceipt, Seen}
+use Rattle.run_deeds.specs.Devices.{Faults, IsBehind, IsBetween, IsInCalls, LifeEndsBy, NeedsReceipt, Seen}
 use Rattle.run_deeds.specs.Parts.{Part, Runs}
 use Rattle.run_deeds.specs.Rounds.{Answers, RoundAnswers, is_moved, is_too_big, outcomes_in, result_of, round_result}
 use Rattle.member_run.specs.declared.running.Running.{Running}
@@ -113,7 +113,7 @@ wait_behind wait need (Arrive now from bytes) behind = wait_between wait need be
 
 -- the need before the word or the Resync, as an end of the part names it
 wait_ends : {conf : Conf} {flags : ℕ} {history : History} {rs : List ℤ} {ws : List ℕ} {qs : List Receipt} {es : List Event} {need : Need} (wait : ℕ) (why : Why) (deeds : List Deed) (ending : Ending) (taken : List Event) (a b : Faults)
-    → all_done deeds ending ≡ map Take taken → Weaves conf (CallReading 0 flags) history rs ws qs es need → EndsBy why ending need a b → EndsBy why ending (waiting wait need) a b
+    → all_done deeds ending ≡ map Take taken → Weaves conf (CallReading 0 flags) history rs ws qs es need → LifeEndsBy why ending need a b → LifeEndsBy why ending (waiting wait need) a b
 wait_ends wait Done deeds ending taken a b takes weaves ends = ends
 wait_ends {need = need} wait SinkFault deeds ending taken a b takes weaves ends = (stops_as (waiting wait) deeds ending taken need takes (wait_behind wait need) ends.0, ends.1)
 wait_ends wait DiskFault deeds ending taken a b takes none ends = ends

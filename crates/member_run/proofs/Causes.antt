@@ -5,7 +5,7 @@ use Rattle.run_deeds.specs.declared.life_end.Why.{Why}
 use Rattle.run_deeds.specs.declared.life_end.Why.TheVariants.{Done, DiskFault, BadVersion, StampsSpent, ClockFault, EntropyFault, SinkFault}
 use Rattle.run_deeds.specs.Weaving.{Need}
 use Rattle.run_deeds.specs.Deeds.{Ending, Whole, NoRecord, NoLine}
-use Rattle.run_deeds.specs.Devices.{ClockFailed, DiskFailed, EndsBy, EntropyFailed, Faults, NoneRose, SinkFailed}
+use Rattle.run_deeds.specs.Devices.{ClockFailed, DiskFailed, EntropyFailed, Faults, LifeEndsBy, NoneRose, SinkFailed}
 
 -- no count falls
 pub record NoneFell (before now : Faults) : Type 0 where
@@ -49,7 +49,7 @@ sink_fell (NoLine deed front) before now (fails, is) =
     let P : Faults → Type 0 = λ (f : Faults). NoneFell before f in
     subst P (sym is) (record { clock = omega arith; entropy = omega arith; disk = omega arith; capture = omega arith; out = later })
 
-pub none_fell : (why : Why) (ending : Ending) (need : Need) (before now : Faults) → EndsBy why ending need before now → NoneFell before now
+pub none_fell : (why : Why) (ending : Ending) (need : Need) (before now : Faults) → LifeEndsBy why ending need before now → NoneFell before now
 none_fell Done ending need before now ends = same_counts before now ends.1
 none_fell DiskFault ending need before now (whole, needs, failed) = disk_fell before now failed
 none_fell BadVersion ending need before now (whole, needs, is) = same_counts before now is
@@ -67,7 +67,7 @@ sink_rises (NoRecord event front) before now (fails, is) kept = kept.capture (ri
 sink_rises (NoLine deed front) before now (fails, is) kept = kept.out (rises before.out now.out fails)
 
 -- where no count rose, no device is blamed
-pub none_blamed : (why : Why) (ending : Ending) (need : Need) (before now : Faults) → EndsBy why ending need before now → NoneRose before now
+pub none_blamed : (why : Why) (ending : Ending) (need : Need) (before now : Faults) → LifeEndsBy why ending need before now → NoneRose before now
     → (why ≡ Done) ⊎ (why ≡ BadVersion) ⊎ (why ≡ StampsSpent)
 none_blamed Done ending need before now ends kept = inl refl
 none_blamed DiskFault ending need before now (whole, needs, failed) kept = absurd (kept.disk (rises before.disk now.disk failed.0))

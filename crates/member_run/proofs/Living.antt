@@ -43,7 +43,7 @@ use Rattle.run_deeds.specs.Closing.{closing_by, closing_lines}
 use Rattle.run_deeds.specs.Counting.{ended, more, with_why}
 use Rattle.run_deeds.specs.Weaving.{Need, Start, Turns, WordFor, ReceiptNow, ReadingFor, Call, CallReading, CallWord, Round, RoundReading, Stood, Weaves, none, life, reads, draws, followed_by, turns_of, weave}
 use Rattle.run_deeds.specs.Deeds.{Deed, Take, Print, Ending, Whole, NoRecord, NoLine, IsWhole, all_done, along, cut_record, events_given, history_after, line_in, missing_in, posted_in, moves_in, printed, reasons_in, ticks_in}
-use Rattle.run_deeds.specs.Devices.{EndsBy, Exchanged, Faults, Given, IsBeforeTick, NeedsDisk, NeedsMark, NeedsReading, Seen, SinkFailed, StopsAt, Timed, faults, posted_of, seen}
+use Rattle.run_deeds.specs.Devices.{Exchanged, Faults, Given, IsBeforeTick, LifeEndsBy, NeedsDisk, NeedsMark, NeedsReading, Seen, SinkFailed, StopsAt, Timed, faults, posted_of, seen}
 use Rattle.run_deeds.specs.Marks.{AddsNoMark, Covers, KeepsLoadable, MarksBeforeSends, Reserved, blocks_of}
 use Rattle.run_deeds.specs.Parts.{Part, Runs, Tallies}
 use Rattle.run_deeds.specs.Lives.{CallsForBlocks, KeptBy, Lives, Reports, Totals}
@@ -401,7 +401,7 @@ parted_of conf turns entry mid exit before between now old new why begun going t
       reserved = λ is. subst (λ (h : History). Reserved (kept_of new) (told conf h)) same (two.part.runs.reserved is reserved);
       greatest = greatest_is new conf newer two.part.is_set two.part.stands ∙ ap (λ (h : History). greatest_count (told conf h)) same;
       behind = λ is time only.
-          let failed = (subst (λ (w : Why). EndsBy w r.ending r.need between.faults now.faults) is r.ends).1 in
+          let failed = (subst (λ (w : Why). LifeEndsBy w r.ending r.need between.faults now.faults) is r.ends).1 in
           let pieces = alone all.taken (missing_in all.ending) (Life time stood.mark) only (λ empty. none_marked conf (subst Marked (ap reverse empty) last)) in
           let missing : missing_in r.ending ≡ [] = ap missing_in (sym both.2) ∙ pieces.0 in
           let history : followed_by older r.taken ≡ Life time stood.mark ∷ [] = sym (taken_history older r.deeds r.ending r.taken r.takes) ∙ same ∙ ap reverse pieces.1 in
@@ -419,7 +419,7 @@ pub lives_made : (conf : Conf) (turns : ℕ) (entry exit : DiskTold) (before now
     → IfSome entry.content (λ c. stood.mark ≡ mark_of_image c)
     → Lived conf turns stood before now given tried taken ending need end
     → Reports conf (reverse taken) end ending need text → Added before.out now.out text
-    → EndsBy end.why ending need before.faults now.faults → (end.why ≡ Done → need ≡ Turns 0)
+    → LifeEndsBy end.why ending need before.faults now.faults → (end.why ≡ Done → need ≡ Turns 0)
     → (end.why ≡ SinkFault → (now : ℤ) → taken ++ missing_in ending ≡ Life now stood.mark ∷ [] → need ≡ Turns turns)
     → KeptBy end.why stood taken (told conf (reverse taken)) entry exit
     → ((taken ≢ []) ⊎ ((end.why ≢ BadVersion) × (end.why ≢ DiskFault)) → IfSome entry.content IsLoadable)
@@ -729,7 +729,7 @@ first_turn turns need es e (inl is) only = ap (start_need turns) is
 first_turn turns need es e (inr nothing) only = absurd (let bad : ⊥ = cc (nothing, only) in bad)
 
 start_ends : (turns mark : ℕ) (why : Why) (deeds : List Deed) (ending : Ending) (taken : List Event) (need : Need) (a b : Faults) → IsOfStart why
-    → all_done deeds ending ≡ map Take taken → AtStart mark (events_given deeds ending) → EndsBy why ending need a b → EndsBy why ending (start_need turns need) a b
+    → all_done deeds ending ≡ map Take taken → AtStart mark (events_given deeds ending) → LifeEndsBy why ending need a b → LifeEndsBy why ending (start_need turns need) a b
 start_ends turns mark Done deeds ending taken need a b of takes at ends = absurd of
 start_ends turns mark DiskFault deeds ending taken need a b of takes at ends = (ends.0, start_disk turns need ends.1, ends.2)
 start_ends turns mark BadVersion deeds ending taken need a b of takes at ends = (ends.0, start_mark turns need ends.1, ends.2)
@@ -800,7 +800,7 @@ before_life deeds ending need taken takes whole (inr needs) (inl is) = absurd (s
 before_life deeds ending need taken takes whole needs (inr is) = sym (whole_given deeds ending taken whole takes) ∙ is
 
 kept_at_start : (why : Why) (conf : Conf) (stood : Stood) (entry exit : DiskTold) (before now : Seen) (deeds : List Deed) (ending : Ending) (need : Need) (taken : List Event) (told_before : List Told) → IsOfStart why
-    → all_done deeds ending ≡ map Take taken → (need ≡ Call) ⊎ (events_given deeds ending ≡ []) → EndsBy why ending need before.faults now.faults
+    → all_done deeds ending ≡ map Take taken → (need ≡ Call) ⊎ (events_given deeds ending ≡ []) → LifeEndsBy why ending need before.faults now.faults
     → (why ≡ BadVersion → IfSome entry.content HasOtherVersion) → (why ≡ BadVersion → IsLeft entry exit) → KeptBy why stood taken told_before entry exit
 kept_at_start Done conf stood entry exit before now deeds ending need taken told_before of takes first ends version left = tt
 kept_at_start DiskFault conf stood entry exit before now deeds ending need taken told_before of takes first ends version left =
@@ -814,7 +814,7 @@ kept_at_start SinkFault conf stood entry exit before now deeds ending need taken
 
 -- what ended at the disk took no event
 begun_not : (why : Why) (before now : Seen) (deeds : List Deed) (ending : Ending) (need : Need) (taken : List Event) → IsOfStart why
-    → all_done deeds ending ≡ map Take taken → (need ≡ Call) ⊎ (events_given deeds ending ≡ []) → EndsBy why ending need before.faults now.faults
+    → all_done deeds ending ≡ map Take taken → (need ≡ Call) ⊎ (events_given deeds ending ≡ []) → LifeEndsBy why ending need before.faults now.faults
     → taken ≢ [] → (why ≢ BadVersion) × (why ≢ DiskFault)
 begun_not Done before now deeds ending need taken of takes first ends some = absurd of
 begun_not DiskFault before now deeds ending need taken of takes first ends some = absurd (some (before_life deeds ending need taken takes ends.0 (inr ends.1) first))

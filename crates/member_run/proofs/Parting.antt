@@ -12,7 +12,7 @@ use Rattle.run_deeds.specs.declared.life_end.LifeEnd.{LifeEnd}
 use Rattle.run_deeds.specs.declared.life_end.Why.{Why}
 use Rattle.run_deeds.specs.declared.life_end.Why.TheVariants.{Done, DiskFault, BadVersion, StampsSpent, ClockFault, EntropyFault, SinkFault}
 use Rattle.run_deeds.specs.Deeds.{Deed, Take, Print, Ending, Whole, NoRecord, NoLine, IsWhole, all_done, events_given, events_in, history_after}
-use Rattle.run_deeds.specs.Devices.{Does, EndsBy, Faults, Given, IsBehind, Seen, SinkFailed, StopsAt}
+use Rattle.run_deeds.specs.Devices.{Does, Faults, Given, IsBehind, LifeEndsBy, Seen, SinkFailed, StopsAt}
 use Rattle.run_deeds.specs.Marks.{Reserved}
 use Rattle.run_deeds.specs.Parts.{Part, Runs, Tallies}
 use Rattle.run_deeds.specs.Weaving.{Need, Weaves, followed_by}
@@ -68,7 +68,7 @@ stops_as f deeds (NoLine (Take event) front) taken need takes keeps stops = keep
 stops_as f deeds (NoLine (Print line) front) taken need takes keeps stops = absurd (no_print deeds line taken takes)
 
 pub take_ends : (why : Why) (ending : Ending) (need : Need) (before now : Faults) → TakeEnds why ending before now → (SinkFailed ending before now → StopsAt ending need)
-    → EndsBy why ending need before now
+    → LifeEndsBy why ending need before now
 take_ends Done ending need before now ends stops = ends
 take_ends SinkFault ending need before now ends stops = (stops ends, ends)
 take_ends DiskFault ending need before now ends stops = absurd ends
@@ -97,7 +97,7 @@ runs_takes conf from next history event given readings before mid now member kep
       takes = takes.takes;
       grows = subst (λ (set : Conf). Grows set (history_after history (all_done takes.deeds takes.ending))) takes.is_set takes.stands.grows;
       tallies = tallies_then conf history [] (all_done takes.deeds takes.ending) given.receipts [] [] takes.tried old old new counted takes.tallies;
-      ends = subst (λ (f : Faults). EndsBy why takes.ending next f now.faults) quiet (take_ends why takes.ending next mid.faults now.faults takes.ends
+      ends = subst (λ (f : Faults). LifeEndsBy why takes.ending next f now.faults) quiet (take_ends why takes.ending next mid.faults now.faults takes.ends
           (stops_behind takes.deeds takes.ending event takes.taken next mid.faults now.faults takes.events takes.takes behind));
       well = λ is. refl;
       reserved = λ is was.
@@ -124,7 +124,7 @@ part_takes conf from next history event given readings before mid now member kep
 pub part_stops : (conf : Conf) (from need next : Need) (history : History) (given : Given) (before now : Seen) (member : Member) (kept kept' : ℕ) (end : LifeEnd) (why : Why)
     → conf_of member ≡ conf → StandsForHistory member history → why ≢ Done → Tallies conf history [] given.receipts [] end end
     → Weaves conf from history given.readings given.words given.receipts [] need → Does conf history given [] [] Whole before now
-    → EndsBy why Whole need before.faults now.faults → Part conf from next history before now member kept kept' end end why
+    → LifeEndsBy why Whole need before.faults now.faults → Part conf from next history before now member kept kept' end end why
 part_stops conf from need next history given before now member kept kept' end why is_set stands not counted weaves does ends = record {
   runs = runs_stop conf from need next history given before now kept kept' end why not
       (subst (λ (set : Conf). Grows set history) is_set stands.grows) counted weaves does ends;

@@ -24,7 +24,7 @@ use Rattle.run_deeds.specs.declared.life_end.Why.TheVariants.{Done, ClockFault}
 use Rattle.run_deeds.specs.Counting.{with_lost, with_quiet}
 use Rattle.run_deeds.specs.Weaving.{Need, Call, Round, RoundReading, Weaves, none, round_gets, round_quiet, round_lost, round_arrives, behind_arrival, followed_by, round_of}
 use Rattle.run_deeds.specs.Deeds.{Deed, Take, Ending, Whole, NoRecord, NoLine, IsWhole, along, all_done, history_after}
-use Rattle.run_deeds.specs.Devices.{EndsBy, Faults, IsBehind, Seen, faults, seen}
+use Rattle.run_deeds.specs.Devices.{Faults, IsBehind, LifeEndsBy, Seen, faults, seen}
 use Rattle.run_deeds.specs.Parts.{Part, Runs, Tallies}
 use Rattle.run_deeds.specs.Rounds.{RoundAnswers, is_moved, is_too_big, outcomes_in, round_result}
 use Rattle.run_deeds.proofs.Deeding.{along-append}
@@ -130,8 +130,8 @@ stepped_at conf from mid next history a b c m m' k0 k1 k2 old between new why ou
         stands = subst (λ (h : History). StandsForHistory m' h) (sym all.1) second.part.stands;
       };
       outs = λ is.
-          let whole : IsWhole t.ending = (subst (λ (w : Why). EndsBy w t.ending t.need a.faults c.faults) is t.ends).0 in
-          let whole' : IsWhole s.ending = (subst (λ (w : Why). EndsBy w s.ending s.need b.faults c.faults) is s.ends).0 in
+          let whole : IsWhole t.ending = (subst (λ (w : Why). LifeEndsBy w t.ending t.need a.faults c.faults) is t.ends).0 in
+          let whole' : IsWhole s.ending = (subst (λ (w : Why). LifeEndsBy w s.ending s.need b.faults c.faults) is s.ends).0 in
           let first : later ≡ followed_by history r.taken = taken_history history r.deeds r.ending r.taken r.takes in
           let led : followed_by history t.taken ≡ followed_by history (r.taken ++ s.taken) =
           sym (taken_history history t.deeds t.ending t.taken t.takes) ∙ all.1 ∙ taken_history later s.deeds s.ending s.taken s.takes

@@ -20,7 +20,7 @@ use Rattle.run_deeds.specs.declared.life_end.Why.{Why}
 use Rattle.run_deeds.specs.declared.life_end.Why.TheVariants.{Done, DiskFault, BadVersion, StampsSpent, ClockFault, EntropyFault, SinkFault}
 use Rattle.run_deeds.specs.Weaving.{Need, Stood, Start, Turns, WordFor, ReceiptNow, ReadingFor, Call, CallReading, CallWord, Round, RoundReading, Weaves, none, life, reads, draws, gets, quiet, lost, arrives, followed_by, turns_of}
 use Rattle.run_deeds.specs.Deeds.{Deed, Take, Ending, Whole, NoRecord, NoLine, IsWhole, all_done, events_given, history_after, missing_in}
-use Rattle.run_deeds.specs.Devices.{EndsBy, Faults, IsBeforeTick, IsBehind, IsBetween, IsInCalls, NeedsCount, NeedsDisk, NeedsMark, NeedsReading, NeedsReceipt, NeedsWord, Seen}
+use Rattle.run_deeds.specs.Devices.{Faults, IsBeforeTick, IsBehind, IsBetween, IsInCalls, LifeEndsBy, NeedsCount, NeedsDisk, NeedsMark, NeedsReading, NeedsReceipt, NeedsWord, Seen}
 use Rattle.run_deeds.specs.Lives.{CallsForBlocks}
 use Rattle.run_deeds.specs.Marks.{Covers, KeepsLoadable, Reserved, last_count}
 use Rattle.run_deeds.specs.Parts.{Part, Runs}
@@ -274,7 +274,7 @@ raised_behind left need (Resync now word flags) behind = raised_calls left need 
 raised_behind left need (Arrive now from bytes) behind = raised_between left need behind
 
 raised_ends : (left : ℕ) (why : Why) (deeds : List Deed) (ending : Ending) (taken : List Event) (need : Need) (a b : Faults) → all_done deeds ending ≡ map Take taken
-    → EndsBy why ending need a b → EndsBy why ending (raised left need) a b
+    → LifeEndsBy why ending need a b → LifeEndsBy why ending (raised left need) a b
 raised_ends left Done deeds ending taken need a b takes ends = ends
 raised_ends left DiskFault deeds ending taken need a b takes ends = (ends.0, needs_disk left need ends.1, ends.2)
 raised_ends left BadVersion deeds ending taken need a b takes ends = (ends.0, needs_mark left need ends.1, ends.2)
@@ -436,7 +436,7 @@ turns_on turns left history old mid new a b c why one turn =
     let r = two.runs in
     let raised = raised_runs conf left between b c (kept_of mid) (kept_of new) (totals_of mid) (totals_of new) why r in
     let both = runs_then conf (Turns turns) (Turns (suc left)) (Turns left) history a b c (kept_of old) (kept_of mid) (kept_of new) (totals_of old) (totals_of mid) (totals_of new) why one.runs raised in
-    let Ends : Why → Type 0 = λ (w : Why). EndsBy w r.ending r.need b.faults c.faults in
+    let Ends : Why → Type 0 = λ (w : Why). LifeEndsBy w r.ending r.need b.faults c.faults in
     record {
       part = record {
         runs = both.0;
@@ -447,13 +447,13 @@ turns_on turns left history old mid new a b c why one turn =
       later = later_taken conf 1 between r.given.readings r.given.words r.given.receipts r.deeds r.ending r.need r.taken r.takes r.weaves;
       ends = both.1 ∙ taken_history between r.deeds r.ending r.taken r.takes;
       whole = λ is.
-          let ends : EndsBy Done r.ending r.need b.faults c.faults = subst Ends is r.ends in
+          let ends : LifeEndsBy Done r.ending r.need b.faults c.faults = subst Ends is r.ends in
           turn_blocks conf 0 between r.given.readings r.given.words r.given.receipts r.deeds r.ending r.need r.taken r.weaves (r.well is) ends.0 r.takes;
       disk = λ is.
-          let ends : EndsBy DiskFault r.ending r.need b.faults c.faults = subst Ends is r.ends in
+          let ends : LifeEndsBy DiskFault r.ending r.need b.faults c.faults = subst Ends is r.ends in
           sym (whole_given r.deeds r.ending r.taken ends.0 r.takes) ∙ not_begun r.weaves ends.1;
       spent = λ is.
-          let ends : EndsBy StampsSpent r.ending r.need b.faults c.faults = subst Ends is r.ends in
+          let ends : LifeEndsBy StampsSpent r.ending r.need b.faults c.faults = subst Ends is r.ends in
           sym (whole_given r.deeds r.ending r.taken ends.0 r.takes) ∙ not_counted r.weaves ends.1;
       turn = turn_taken conf between r.given.readings r.given.words r.given.receipts r.deeds r.ending r.need r.taken r.takes r.weaves;
       first = λ nothing. rw (both.2, both.3) (before_tick left r.deeds r.ending r.taken r.takes r.weaves nothing);

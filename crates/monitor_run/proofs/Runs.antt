@@ -16,7 +16,7 @@ use Rattle.monitor_run.specs.declared.finding.Finding.{Finding}
 use Rattle.monitor_run.specs.declared.why.MonitorWhy.{MonitorWhy}
 use Rattle.monitor_run.specs.declared.why.MonitorWhy.TheVariants.{Done, ClockFault, EntropyFault, WriteFault}
 use Rattle.monitor_run.specs.Asking.{Asked, Deed, Did, answered_of, deed_of, deeds_of, entries_of, finding_at, lines_of, no_deed}
-use Rattle.monitor_run.specs.Ending.{EndsBy, FailsIf, StopsAt, is_clock_fault, is_entropy_fault, is_write_fault}
+use Rattle.monitor_run.specs.Ending.{FailsIf, MonitorEndsBy, StopsAt, is_clock_fault, is_entropy_fault, is_write_fault}
 use Rattle.monitor_run.specs.Lines.{computers_line, is_answered, line_of}
 use Rattle.monitor_run.specs.Monitoring.{Monitors, Seen}
 use Rattle.monitor_run.specs.Progress.{FailsToWrite, HasAsked, Reports, Stops}
@@ -89,7 +89,7 @@ asked_next entries place entry before mid now answered finding at has reports =
 -- ---- The end of a run
 
 ends_there : (why : MonitorWhy) (asked : List Asked) (entry : Entry) (later : List Entry) (deed : Deed) (text : List ℕ) → StopsAt why entry deed text
-    → EndsBy why asked (entry ∷ later) deed text
+    → MonitorEndsBy why asked (entry ∷ later) deed text
 ends_there Done asked entry later deed text stops = absurd stops
 ends_there ClockFault asked entry later deed text stops = record { entry = entry; later = later; are = refl; stops = stops }
 ends_there EntropyFault asked entry later deed text stops = record { entry = entry; later = later; are = refl; stops = stops }

@@ -109,8 +109,8 @@ pub record BreaksOffTotal (asked : List Asked) (rest : List Entry) (deed : Deed)
 -- ---- Each end
 
 -- What was done behind the lines of the entries that were asked, the rest being left, and what was written there.
-abbrev pub EndsBy : MonitorWhy → List Asked → List Entry → Deed → List ℕ → Type 0
-EndsBy Done asked rest deed text = Closes asked rest deed text
-EndsBy ClockFault asked rest deed text = StopsIn ClockFault rest deed text
-EndsBy EntropyFault asked rest deed text = StopsIn EntropyFault rest deed text
-EndsBy WriteFault asked rest deed text = StopsIn WriteFault rest deed text ⊎ BreaksOffTotal asked rest deed text
+abbrev pub MonitorEndsBy : MonitorWhy → List Asked → List Entry → Deed → List ℕ → Type 0
+MonitorEndsBy Done asked rest deed text = Closes asked rest deed text
+MonitorEndsBy ClockFault asked rest deed text = StopsIn ClockFault rest deed text
+MonitorEndsBy EntropyFault asked rest deed text = StopsIn EntropyFault rest deed text
+MonitorEndsBy WriteFault asked rest deed text = StopsIn WriteFault rest deed text ⊎ BreaksOffTotal asked rest deed text

@@ -5,7 +5,7 @@ use Rattle.partner_pick.specs.declared.entry.Entry.{Entry}
 use Rattle.line_text.specs.Text.{joined}
 use Rattle.monitor_run.specs.declared.why.MonitorWhy.{MonitorWhy}
 use Rattle.monitor_run.specs.Asking.{Asked, Deed, Devices, Did, deeds_of, entries_of, lines_of, then}
-use Rattle.monitor_run.specs.Ending.{EndsBy, FailsIf, is_clock_fault, is_entropy_fault, is_write_fault}
+use Rattle.monitor_run.specs.Ending.{FailsIf, MonitorEndsBy, is_clock_fault, is_entropy_fault, is_write_fault}
 
 -- what the devices tell at a moment, the sink among them, and how often their calls have failed
 pub record Seen : Type 0 where
@@ -25,7 +25,7 @@ pub record Monitors (entries : List Entry) (before now : Seen) (why : MonitorWhy
   pub last : Deed
   pub text : List ℕ
   pub are : entries ≡ entries_of asked ++ rest
-  pub ends : EndsBy why asked rest last text
+  pub ends : MonitorEndsBy why asked rest last text
   pub did : Did (then (deeds_of asked) last) before.devices now.devices
   pub wrote : Added before.written now.written (joined (lines_of asked) ++ text)
   pub clock_count : FailsIf (is_clock_fault why) before.devices.clock_faults now.devices.clock_faults

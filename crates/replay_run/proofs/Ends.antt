@@ -24,7 +24,7 @@ use Rattle.replay_run.specs.declared.end.ReplayWhy.{ReplayWhy}
 use Rattle.replay_run.specs.declared.end.ReplayWhy.TheVariants as why
 use Rattle.replay_run.specs.Seen.{Seen}
 use Rattle.replay_run.specs.Totals.{AreTotals, total_line}
-use Rattle.replay_run.specs.Replay.{history_of, EndsBy, IsBadAt, IsAtEnd, Replays}
+use Rattle.replay_run.specs.Replay.{history_of, ReplayEndsBy, IsBadAt, IsAtEnd, Replays}
 use Rattle.replay_run.specs.Running.{Runs, Closes, counted, why_of, why_of_put}
 use Rattle.replay_run.proofs.Counts.{totals_more}
 use Rattle.replay_run.proofs.Steps.{history_more}
@@ -37,7 +37,7 @@ grows conf reader member end before now runs = subst (λ (c : Conf). Grows c (hi
 -- the events that a reader has read were taken, and this is how the replay ended behind them
 replays : (conf : Conf) (before now : Seen) (result : ReplayEnd) (events : List Event) (reader : Reader) (read : HasRead events reader before.left now.left)
     → Grows conf (history_of events) → AreTotals conf (history_of events) result
-    → EndsBy conf events result (length read.front) reader.held before now result.why → Replays conf before now result
+    → ReplayEndsBy conf events result (length read.front) reader.held before now result.why → Replays conf before now result
 replays conf before now result events reader read grow totals ends = record {
   events = events;
   front = read.front;
@@ -71,7 +71,7 @@ ends_bad conf events end at place ahead before mid now wrong there not_read show
 ends_fault : (conf : Conf) (events : List Event) (end : ReplayEnd) (place : ℕ) (ahead : List ℕ) (before mid now : Seen) (wrong : CaptureFault)
     → Shows place ahead now.left wrong → FaultCounts wrong mid.read_faults now.read_faults → mid.read_faults ≡ before.read_faults
     → Added before.written now.written (report_of conf (history_of events)) → now.write_faults ≡ before.write_faults
-    → EndsBy conf events (record end { why = why_of wrong }) place ahead before now (why_of wrong)
+    → ReplayEndsBy conf events (record end { why = why_of wrong }) place ahead before now (why_of wrong)
 ends_fault conf events end place ahead before mid now (fault.BadKind at) shows counts same written writes =
     ends_bad conf events end at place ahead before mid now (fault.BadKind at) (shows []).there (λ is. cc) shows written (counts ∙ same) writes
 ends_fault conf events end place ahead before mid now (fault.BadReading at) shows counts same written writes =
@@ -148,7 +148,7 @@ ends_put : (conf : Conf) (events : List Event) (end : ReplayEnd) (place : ℕ) (
     → IsAtEnd place ahead now.left → Added before.written mid.written (report_of conf (history_of events))
     → Writes put (total_line end.sent end.moved end.refused) mid.written now.written → PutCounts put mid.write_faults now.write_faults
     → now.read_faults ≡ before.read_faults → mid.write_faults ≡ before.write_faults
-    → EndsBy conf events (record end { why = why_of_put put }) place ahead before now (why_of_put put)
+    → ReplayEndsBy conf events (record end { why = why_of_put put }) place ahead before now (why_of_put put)
 ends_put conf events end place ahead before mid now write.Done at written writes counts reads same = record {
   ends = at;
   written = added_more before.written mid.written now.written _ _ written writes;

@@ -23,7 +23,7 @@ use Rattle.replay_run.specs.declared.end.ReplayWhy.{ReplayWhy}
 use Rattle.replay_run.specs.declared.end.ReplayWhy.TheVariants as why
 use Rattle.replay_run.specs.Seen.{Seen}
 use Rattle.replay_run.specs.Totals.{AreTotals, total_line}
-use Rattle.replay_run.specs.Replay.{history_of, IsRefused, IsDone, ShowsFault, EndsBy, Replays, ReportsAll}
+use Rattle.replay_run.specs.Replay.{history_of, IsRefused, IsDone, ShowsFault, ReplayEndsBy, Replays, ReportsAll}
 use Rattle.replay_run.specs.Judged.{IsBadRecord, EndsAt, ReplaysTo, SpellsGrowing}
 
 -- ---- Where the source tells its bytes
@@ -70,7 +70,7 @@ bad_of conf history place ahead rest now is bad =
     ]
 
 told_end : (conf : Conf) (events : List Event) (result : ReplayEnd) (place : ℕ) (ahead rest : List ℕ) (before now : Seen) (w : ReplayWhy) → now.left ≡ Some rest
-    → w ≢ why.ReadFault → w ≢ why.WriteFault → EndsBy conf events result place ahead before now w → EndsAt conf (history_of events) place (ahead ++ rest) w
+    → w ≢ why.ReadFault → w ≢ why.WriteFault → ReplayEndsBy conf events result place ahead before now w → EndsAt conf (history_of events) place (ahead ++ rest) w
 told_end conf events result place ahead rest before now why.Done is not_read not_written ends =
     (ends.ends.below, ap (λ (l : List ℕ). l ++ rest) ends.ends.none ∙ used_up now.left rest is ends.ends.ended)
 told_end conf events result place ahead rest before now (why.BadCapture at) is not_read not_written ends =
@@ -231,7 +231,7 @@ pub whole : (conf : Conf) (before now : Seen) (result : ReplayEnd) (bytes : List
     → SpellsEvents events bytes → result.why ≡ why.Done → ReportsAll conf (history_of events) result before.written now.written
 whole conf before now result bytes events r is spells done =
     let ends : IsDone conf (history_of r.events) result (length r.front) r.ahead before now =
-    subst (λ (w : ReplayWhy). EndsBy conf r.events result (length r.front) r.ahead before now w) done r.ends in
+    subst (λ (w : ReplayWhy). ReplayEndsBy conf r.events result (length r.front) r.ahead before now w) done r.ends in
     let rest = took_some before.left now.left bytes (r.front ++ r.ahead) r.took is in
     let front : bytes ≡ r.front = rest.2 ∙ append_assoc r.front r.ahead rest.0
     ∙ ap (λ (l : List ℕ). r.front ++ (r.ahead ++ l)) (used_up now.left rest.0 rest.1 ends.ends.ended)
@@ -245,14 +245,14 @@ whole conf before now result bytes events r is spells done =
 -- ---- The causes, and the counts
 
 end_reads : (conf : Conf) (events : List Event) (result : ReplayEnd) (place : ℕ) (ahead : List ℕ) (before now : Seen) (w : ReplayWhy)
-    → EndsBy conf events result place ahead before now w → (before.read_faults ≤ now.read_faults) × (w ≡ why.ReadFault → Rose before.read_faults now.read_faults)
+    → ReplayEndsBy conf events result place ahead before now w → (before.read_faults ≤ now.read_faults) × (w ≡ why.ReadFault → Rose before.read_faults now.read_faults)
 end_reads conf events result place ahead before now why.Done ends = (omega (arith, ends.no_read_fault), λ is. cc is)
 end_reads conf events result place ahead before now (why.BadCapture at) ends = (omega (arith, ends.no_read_fault), λ is. cc is)
 end_reads conf events result place ahead before now why.ReadFault ends = (ends.cause.later, λ is. omega (arith, ends.cause.once))
 end_reads conf events result place ahead before now why.WriteFault ends = (omega (arith, ends.no_read_fault), λ is. cc is)
 
 end_writes : (conf : Conf) (events : List Event) (result : ReplayEnd) (place : ℕ) (ahead : List ℕ) (before now : Seen) (w : ReplayWhy)
-    → EndsBy conf events result place ahead before now w → (before.write_faults ≤ now.write_faults) × (w ≡ why.WriteFault → Rose before.write_faults now.write_faults)
+    → ReplayEndsBy conf events result place ahead before now w → (before.write_faults ≤ now.write_faults) × (w ≡ why.WriteFault → Rose before.write_faults now.write_faults)
 end_writes conf events result place ahead before now why.Done ends = (omega (arith, ends.no_write_fault), λ is. cc is)
 end_writes conf events result place ahead before now (why.BadCapture at) ends = (omega (arith, ends.no_write_fault), λ is. cc is)
 end_writes conf events result place ahead before now why.ReadFault ends = (omega (arith, ends.no_write_fault), λ is. cc is)

@@ -111,14 +111,14 @@ pub record FailsToWrite (conf : Conf) (events : List Event) (result : ReplayEnd)
   pub cause : Fails before.write_faults now.write_faults
 
 -- what each answer says of the end, behind these events and at this place
-abbrev pub EndsBy : Conf → List Event → ReplayEnd → ℕ → List ℕ → Seen → Seen → ReplayWhy → Type 0
-EndsBy conf events result place ahead before now Done =
+abbrev pub ReplayEndsBy : Conf → List Event → ReplayEnd → ℕ → List ℕ → Seen → Seen → ReplayWhy → Type 0
+ReplayEndsBy conf events result place ahead before now Done =
     IsDone conf (history_of events) result place ahead before now
-EndsBy conf events result place ahead before now (BadCapture at) =
+ReplayEndsBy conf events result place ahead before now (BadCapture at) =
     IsBadAt conf (history_of events) at place ahead before now
-EndsBy conf events result place ahead before now ReadFault =
+ReplayEndsBy conf events result place ahead before now ReadFault =
     FailsToRead conf (history_of events) place ahead before now
-EndsBy conf events result place ahead before now WriteFault =
+ReplayEndsBy conf events result place ahead before now WriteFault =
     FailsToWrite conf events result place ahead before now
 
 -- ---- The whole
@@ -134,7 +134,7 @@ pub record Replays (conf : Conf) (before now : Seen) (result : ReplayEnd) : Type
   pub grows : Grows conf (history_of events)
   pub took : Took before.left now.left (front ++ ahead)
   pub totals : AreTotals conf (history_of events) result
-  pub ends : EndsBy conf events result (length front) ahead before now result.why
+  pub ends : ReplayEndsBy conf events result (length front) ahead before now result.why
 
 -- the numbers are those of this history, and its report and the total line were written
 pub record ReportsAll (conf : Conf) (history : History) (result : ReplayEnd)

@@ -10,7 +10,7 @@ use Rattle.run_deeds.specs.declared.life_end.Why.{Why}
 use Rattle.run_deeds.specs.declared.life_end.Why.TheVariants.{Done}
 use Rattle.run_deeds.specs.Weaving.{Need, Weaves}
 use Rattle.run_deeds.specs.Deeds.{Whole}
-use Rattle.run_deeds.specs.Devices.{Does, EndsBy, Faults, Given, Seen, seen}
+use Rattle.run_deeds.specs.Devices.{Does, Faults, Given, LifeEndsBy, Seen, seen}
 use Rattle.run_deeds.specs.Parts.{Runs, Tallies}
 use Rattle.run_deeds.proofs.Doing.{does_none}
 
@@ -38,7 +38,7 @@ does_still conf history link clock words capture out link_faults before now =
 abbrev pub runs_stop : (conf : Conf) (from need next : Need) (history : History) (given : Given) (before now : Seen) (kept kept' : ℕ) (end : LifeEnd) (why : Why)
     → why ≢ Done → Grows conf history → Tallies conf history [] given.receipts [] end end
     → Weaves conf from history given.readings given.words given.receipts [] need → Does conf history given [] [] Whole before now
-    → EndsBy why Whole need before.faults now.faults → Runs conf from next history before now kept kept' end end why
+    → LifeEndsBy why Whole need before.faults now.faults → Runs conf from next history before now kept kept' end end why
 runs_stop conf from need next history given before now kept kept' end why not grows counted weaves does ends = record {
   given = given;
   tried = [];

@@ -186,11 +186,11 @@ StopsAt (NoLine (Print line) front) need = need ≡ Turns 0
 
 -- What each answer says of the last deed, of what is needed next, and of the calls that failed: with a fault of a
 -- device that device failed once, at the call that was due, and with any other answer no call failed.
-abbrev pub EndsBy : Why → Ending → Need → Faults → Faults → Type 0
-EndsBy Done ending need before now = IsWhole ending × (now ≡ before)
-EndsBy DiskFault ending need before now = IsWhole ending × NeedsDisk need × DiskFailed before now
-EndsBy BadVersion ending need before now = IsWhole ending × NeedsMark need × (now ≡ before)
-EndsBy StampsSpent ending need before now = IsWhole ending × NeedsCount need × (now ≡ before)
-EndsBy ClockFault ending need before now = IsWhole ending × NeedsReading need × ClockFailed before now
-EndsBy EntropyFault ending need before now = IsWhole ending × NeedsWord need × EntropyFailed before now
-EndsBy SinkFault ending need before now = StopsAt ending need × SinkFailed ending before now
+abbrev pub LifeEndsBy : Why → Ending → Need → Faults → Faults → Type 0
+LifeEndsBy Done ending need before now = IsWhole ending × (now ≡ before)
+LifeEndsBy DiskFault ending need before now = IsWhole ending × NeedsDisk need × DiskFailed before now
+LifeEndsBy BadVersion ending need before now = IsWhole ending × NeedsMark need × (now ≡ before)
+LifeEndsBy StampsSpent ending need before now = IsWhole ending × NeedsCount need × (now ≡ before)
+LifeEndsBy ClockFault ending need before now = IsWhole ending × NeedsReading need × ClockFailed before now
+LifeEndsBy EntropyFault ending need before now = IsWhole ending × NeedsWord need × EntropyFailed before now
+LifeEndsBy SinkFault ending need before now = StopsAt ending need × SinkFailed ending before now

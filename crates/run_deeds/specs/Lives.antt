@@ -28,7 +28,7 @@ use Rattle.run_deeds.specs.declared.life_end.Why.{Why}
 use Rattle.run_deeds.specs.declared.life_end.Why.TheVariants.{Done, DiskFault, BadVersion, StampsSpent, SinkFault}
 use Rattle.run_deeds.specs.Weaving.{Stood, Need, Start, Turns, Weaves, weave}
 use Rattle.run_deeds.specs.Deeds.{Ending, Whole, NoRecord, NoLine, Take, Print, missing_in, cut_record, reasons_by, ticks_by}
-use Rattle.run_deeds.specs.Devices.{Seen, Given, Exchanged, Timed, EndsBy, IsBeforeTick, posted_of}
+use Rattle.run_deeds.specs.Devices.{Seen, Given, Exchanged, Timed, LifeEndsBy, IsBeforeTick, posted_of}
 use Rattle.run_deeds.specs.Parts.{is_quiet}
 use Rattle.run_deeds.specs.Closing.{closing_lines, closing_by}
 use Rattle.run_deeds.specs.Marks.{IsDue, KeepsLoadable, MarksBeforeSends, blocks_of}
@@ -103,7 +103,7 @@ pub record Lives (conf : Conf) (turns : ℕ) (entry exit : DiskTold) (before now
   pub out : Added before.out now.out text
   pub totals : Totals conf events given.receipts tried end
   -- why the run ended: exactly one call failed, or none
-  pub ends : EndsBy end.why ending need before.faults now.faults
+  pub ends : LifeEndsBy end.why ending need before.faults now.faults
   pub link_failed : FailsTimes (failed_receipts given.receipts + failed_sends tried) before.link_faults now.link_faults
   pub well : end.why ≡ Done → need ≡ Turns 0
   -- where the record or the line of the Life could not be written, the first turn is needed next

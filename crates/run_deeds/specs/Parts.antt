@@ -19,7 +19,7 @@ use Rattle.run_deeds.specs.Weaving.{Need, Weaves}
 use Rattle.run_deeds.specs.Counting.{more}
 use Rattle.run_deeds.specs.Marks.{Reserved}
 use Rattle.run_deeds.specs.Deeds.{Deed, Take, Ending, along, history_after, posted_in, moves_in, reasons_in, ticks_in, all_done, events_given}
-use Rattle.run_deeds.specs.Devices.{Seen, Given, Does, EndsBy}
+use Rattle.run_deeds.specs.Devices.{Seen, Given, Does, LifeEndsBy}
 
 abbrev pub is_quiet : Receipt → Bool
 is_quiet (Got from bytes) = false
@@ -57,7 +57,7 @@ pub record Runs (conf : Conf) (from next : Need) (history : History) (before now
   pub takes : all_done deeds ending ≡ map Take taken
   pub grows : Grows conf (history_after history (all_done deeds ending))
   pub tallies : Tallies conf history (all_done deeds ending) given.receipts tried old new
-  pub ends : EndsBy why ending need before.faults now.faults
+  pub ends : LifeEndsBy why ending need before.faults now.faults
   pub well : why ≡ Done → need ≡ next
   -- the counts reserved are those that were due
   pub reserved : why ≡ Done → Reserved kept (told conf history)

@@ -16,7 +16,7 @@ use Rattle.replay_run.specs.Totals.{AreTotals, is_refused}
 use Rattle.replay_run.specs.declared.end.ReplayEnd.{ReplayEnd}
 use Rattle.run_deeds.specs.Closing.{closing_by, closing_lines, link_line, total_line}
 use Rattle.run_deeds.specs.Deeds.{Ending, Whole, NoRecord, NoLine, IsWhole, cut_record, missing_in, reasons_by}
-use Rattle.run_deeds.specs.Devices.{EndsBy}
+use Rattle.run_deeds.specs.Devices.{LifeEndsBy}
 use Rattle.run_deeds.specs.Lives.{Reports, Totals}
 use Rattle.run_deeds.specs.Weaving.{Need, Start, Stood, Turns, Weaves, none, life, reads, draws, gets, quiet, lost, arrives}
 use Rattle.run_deeds.specs.declared.life_end.LifeEnd.{LifeEnd}
@@ -204,7 +204,7 @@ own_record before now old capture record_bytes told grew added =
 was_whole : (turns : ℕ) (entry exit : DiskTold) (before now : Seen) (capture : List ℕ) (run : Records turns entry exit before now capture) → IsWhole run.lived.lives.ending
 was_whole turns entry exit before now capture run =
     let lived = run.lived in
-    let ends = subst (λ (w : Why). EndsBy w lived.lives.ending lived.lives.need (member_seen before).faults (member_seen now).faults) lived.ended lived.lives.ends in
+    let ends = subst (λ (w : Why). LifeEndsBy w lived.lives.ending lived.lives.need (member_seen before).faults (member_seen now).faults) lived.ended lived.lives.ends in
     ends.0
 
 -- what was recorded are the records of its events

@@ -6,7 +6,7 @@ use Rattle.member_run.proofs.Blocks.{blocks_in, sends_in}
 use Rattle.member_run.proofs.Ordered.{followed_none}
 use Rattle.member_run.proofs.Turning.{whole_reserves}
 use Rattle.run_deeds.specs.Deeds.{Ending, Whole, NoRecord, NoLine, IsWhole, missing_in}
-use Rattle.run_deeds.specs.Devices.{EndsBy, NoneRose}
+use Rattle.run_deeds.specs.Devices.{LifeEndsBy, NoneRose}
 use Rattle.run_deeds.specs.Lives.{KeptBy}
 use Rattle.run_deeds.specs.declared.life_end.LifeEnd.{LifeEnd}
 use Rattle.run_deeds.specs.declared.life_end.Why.{Why}
@@ -118,7 +118,7 @@ had_room : (turns : ℕ) (entry exit : DiskTold) (before now : Seen) (runs : Liv
 unfolding told
 had_room turns entry exit before now runs content some disk above =
     let l = runs.lives in
-    let ends = subst (λ (w : Why). EndsBy w l.ending l.need (member_seen before).faults (member_seen now).faults) runs.ended l.ends in
+    let ends = subst (λ (w : Why). LifeEndsBy w l.ending l.need (member_seen before).faults (member_seen now).faults) runs.ended l.ends in
     let given : l.events ++ missing_in l.ending ≡ l.events = ap (λ (es : List Event). l.events ++ es) (none_missing l.ending ends.0) ∙ append-nil l.events in
     let P : List Event → Type 0 = λ (es : List Event). 1 ≤ blocks_in runs.conf es in
     let all : P (reverse l.events) = subst P (followed_none (l.events ++ missing_in l.ending) ∙ ap reverse given) (whole_reserves l.weaves some (l.well runs.ended)) in
@@ -154,7 +154,7 @@ had_few : (turns : ℕ) (entry exit : DiskTold) (before now : Seen) (runs : Live
     → entry.content ≡ Some content → mark_of_image content + turns ≤ 4294967232 → ⊥
 had_few turns entry exit before now runs content disk fits =
     let l = runs.lives in
-    let ends = subst (λ (w : Why). EndsBy w l.ending l.need (member_seen before).faults (member_seen now).faults) runs.ended l.ends in
+    let ends = subst (λ (w : Why). LifeEndsBy w l.ending l.need (member_seen before).faults (member_seen now).faults) runs.ended l.ends in
     let given : l.events ++ missing_in l.ending ≡ l.events = ap (λ (es : List Event). l.events ++ es) (none_missing l.ending ends.0) ∙ append-nil l.events in
     let P : List Event → Type 0 = λ (es : List Event). 1 + sends_in runs.conf es ≤ turns in
     let ahead : P (reverse l.events) = subst P (followed_none (l.events ++ missing_in l.ending) ∙ ap reverse given) (run_ahead l.weaves ends.1) in
