@@ -16,8 +16,8 @@ use Rattle.key_book.specs.declared.account.Account.{Account}
 use Rattle.dc_sign.specs.declared.info.ServerInfo.{ServerInfo}
 use Rattle.dc_sign.specs.declared.outcome.Answer.{Answer}
 use Rattle.dc_sign.specs.declared.outcome.Answer.TheVariants as answer
-use Rattle.dc_sign.specs.declared.tally.Outcome.{Outcome}
-use Rattle.dc_sign.specs.declared.tally.Outcome.TheVariants as outcome
+use Rattle.dc_sign.specs.declared.tally.TurnOutcome.{TurnOutcome}
+use Rattle.dc_sign.specs.declared.tally.TurnOutcome.TheVariants as outcome
 use Rattle.dc_sign.specs.Info.{IsLocalInfo}
 use Rattle.dc_sign.specs.Reply.{Answers}
 use Rattle.dc_sign.specs.Sending.{Sends}
@@ -77,7 +77,7 @@ lost_turn accounts before now gave counts clock no_fault = record {
 }
 
 -- a datagram came, and was answered
-pub answered_turn : (accounts : List Account) (info : ServerInfo) (from : Addr) (request : List ℕ) (t2 t3 : ℤ) (given : Answer) (result : Outcome)
+pub answered_turn : (accounts : List Account) (info : ServerInfo) (from : Addr) (request : List ℕ) (t2 t3 : ℤ) (given : Answer) (result : TurnOutcome)
     (before now : Seen) (link : Option LinkTold) (link_faults : ℕ)
     → GaveReceipts before.link link (receipt.Got from request ∷ []) → ReceiptCounts (receipt.Got from request) before.link_faults link_faults
     → GaveReadings before.clock now.clock (t2 ∷ t3 ∷ []) → now.clock_faults ≡ before.clock_faults

@@ -4,8 +4,8 @@ use Rattle.std.specs.List.{count_by}
 use Rattle.std.proofs.lemmas.List.Sums.{sum_by-append}
 use Rattle.edge_traits.specs.declared.sink.Put.TheVariants as write
 use Rattle.dc_sign.specs.declared.outcome.Refusal.TheVariants.{BadLength, BadVersion, BadMode, UnknownAccount, NoOldKey}
-use Rattle.dc_sign.specs.declared.tally.Outcome.{Outcome}
-use Rattle.dc_sign.specs.declared.tally.Outcome.TheVariants.{Signed, Plain, Refused, Quiet, Lost}
+use Rattle.dc_sign.specs.declared.tally.TurnOutcome.{TurnOutcome}
+use Rattle.dc_sign.specs.declared.tally.TurnOutcome.TheVariants.{Signed, Plain, Refused, Quiet, Lost}
 use Rattle.dc_sign.specs.declared.tally.ServeEnd.{ServeEnd}
 use Rattle.dc_sign.specs.declared.tally.ServeWhy.{ServeWhy}
 use Rattle.dc_sign.specs.Counting.{counted, one_more}
@@ -21,11 +21,11 @@ unfolding bump
 bumped n true = omega arith
 bumped n false = omega arith
 
-number_more : (is : Outcome → Bool) (outcomes : List Outcome) (o : Outcome) → number is (outcomes ++ o ∷ []) ≡ bump (is o) (number is outcomes)
+number_more : (is : TurnOutcome → Bool) (outcomes : List TurnOutcome) (o : TurnOutcome) → number is (outcomes ++ o ∷ []) ≡ bump (is o) (number is outcomes)
 number_more is outcomes o = ap (λ (n : ℕ). min n (2 ^ 32 - 1)) (sum_by-append _ outcomes (o ∷ [])) ∙ bumped (count_by is outcomes) (is o)
 
 -- the numbers with one outcome more, each by itself
-bumped_all : Outcome → List Outcome → ServeWhy → ServeEnd
+bumped_all : TurnOutcome → List TurnOutcome → ServeWhy → ServeEnd
 bumped_all o outcomes why = record {
   signed = bump (is_signed o) (number is_signed outcomes);
   plain = bump (is_plain o) (number is_plain outcomes);
@@ -42,7 +42,7 @@ bumped_all o outcomes why = record {
   why = why;
 }
 
-each_more : (outcomes : List Outcome) (o : Outcome) (why : ServeWhy) → numbers_of (outcomes ++ o ∷ []) why ≡ bumped_all o outcomes why
+each_more : (outcomes : List TurnOutcome) (o : TurnOutcome) (why : ServeWhy) → numbers_of (outcomes ++ o ∷ []) why ≡ bumped_all o outcomes why
 unfolding bumped_all
 each_more outcomes o why =
     let length = number_more (is_refused BadLength) outcomes o in
@@ -65,7 +65,7 @@ each_more outcomes o why =
       why = why;
     }
 
-is_counted : (outcomes : List Outcome) (o : Outcome) (why : ServeWhy) → bumped_all o outcomes why ≡ counted o (numbers_of outcomes why)
+is_counted : (outcomes : List TurnOutcome) (o : TurnOutcome) (why : ServeWhy) → bumped_all o outcomes why ≡ counted o (numbers_of outcomes why)
 unfolding bumped_all bump
 is_counted outcomes (Signed write.Done) why = refl
 is_counted outcomes (Signed write.Failed) why = refl
@@ -80,5 +80,5 @@ is_counted outcomes Quiet why = refl
 is_counted outcomes Lost why = refl
 
 -- the numbers with one outcome more
-pub numbers_more : (outcomes : List Outcome) (o : Outcome) (why : ServeWhy) → numbers_of (outcomes ++ o ∷ []) why ≡ counted o (numbers_of outcomes why)
+pub numbers_more : (outcomes : List TurnOutcome) (o : TurnOutcome) (why : ServeWhy) → numbers_of (outcomes ++ o ∷ []) why ≡ counted o (numbers_of outcomes why)
 numbers_more outcomes o why = each_more outcomes o why ∙ is_counted outcomes o why

@@ -12,7 +12,7 @@ use Rattle.edge_traits.specs.declared.link.Tried.{Tried}
 use Rattle.edge_traits.proofs.Clocks.{gave_more, gave_none}
 use Rattle.edge_traits.proofs.Links.{failed_receipts-append, failed_sends-append}
 use Rattle.key_book.specs.declared.account.Account.{Account}
-use Rattle.dc_sign.specs.declared.tally.Outcome.{Outcome}
+use Rattle.dc_sign.specs.declared.tally.TurnOutcome.{TurnOutcome}
 use Rattle.dc_sign.specs.declared.tally.ServeEnd.{ServeEnd}
 use Rattle.dc_sign.specs.declared.tally.ServeWhy.{ServeWhy}
 use Rattle.dc_sign.specs.declared.tally.ServeWhy.TheVariants.{Done, ClockFault}
@@ -62,16 +62,16 @@ takes_more accounts turns turn before mid now first next =
 pub served_none : (accounts : List Account) (now : Seen) → HasServed accounts 0 now now (numbers_of [] Done)
 served_none accounts now = record { taken = []; size = refl; takes = takes_none accounts now; counted = refl }
 
-pub served_more : (accounts : List Account) (count : ℕ) (before mid now : Seen) (numbers : ServeEnd) (outcome : Outcome)
+pub served_more : (accounts : List Account) (count : ℕ) (before mid now : Seen) (numbers : ServeEnd) (outcome : TurnOutcome)
     → HasServed accounts count before mid numbers → TakesOne accounts mid now outcome → HasServed accounts (count + 1) before now (counted outcome numbers)
 served_more accounts count before mid now numbers outcome served one =
     let outcomes : outcomes_of (served.taken ++ one.turn ∷ []) ≡ outcomes_of served.taken ++ outcome ∷ [] =
-    map-append (λ (t : Turn). t.outcome) served.taken (one.turn ∷ []) ∙ ap (λ (o : Outcome). outcomes_of served.taken ++ o ∷ []) one.is in
+    map-append (λ (t : Turn). t.outcome) served.taken (one.turn ∷ []) ∙ ap (λ (o : TurnOutcome). outcomes_of served.taken ++ o ∷ []) one.is in
     record {
       taken = served.taken ++ one.turn ∷ [];
       size = omega (arith, length-append served.taken (one.turn ∷ []), served.size);
       takes = takes_more accounts served.taken one.turn before mid now served.takes one.takes;
-      counted = ap (counted outcome) served.counted ∙ sym (numbers_more (outcomes_of served.taken) outcome Done) ∙ ap (λ (l : List Outcome). numbers_of l Done) (sym outcomes);
+      counted = ap (counted outcome) served.counted ∙ sym (numbers_more (outcomes_of served.taken) outcome Done) ∙ ap (λ (l : List TurnOutcome). numbers_of l Done) (sym outcomes);
     }
 
 -- ---- The end of a run

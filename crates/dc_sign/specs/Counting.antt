@@ -2,8 +2,8 @@
 use Rattle.std.specs.Prelude.{◌+◌, ◌-◌, ◌^◌, ℕ, List, min, set, slice_index}
 use Rattle.edge_traits.specs.declared.sink.Put.{Put}
 use Rattle.edge_traits.specs.declared.sink.Put.TheVariants as write
-use Rattle.dc_sign.specs.declared.tally.Outcome.{Outcome}
-use Rattle.dc_sign.specs.declared.tally.Outcome.TheVariants.{Signed, Plain, Refused, Quiet, Lost}
+use Rattle.dc_sign.specs.declared.tally.TurnOutcome.{TurnOutcome}
+use Rattle.dc_sign.specs.declared.tally.TurnOutcome.TheVariants.{Signed, Plain, Refused, Quiet, Lost}
 use Rattle.dc_sign.specs.declared.tally.ServeEnd.{ServeEnd}
 use Rattle.dc_sign.specs.Numbers.{place_of}
 
@@ -19,7 +19,7 @@ abbrev pub with_send : Put → ServeEnd → ServeEnd
 with_send write.Done e = e
 with_send write.Failed e = record e { unsent = one_more e.unsent }
 
-abbrev pub counted : Outcome → ServeEnd → ServeEnd
+abbrev pub counted : TurnOutcome → ServeEnd → ServeEnd
 counted (Signed put) e = with_send put (record e { signed = one_more e.signed })
 counted (Plain put) e = with_send put (record e { plain = one_more e.plain })
 counted (Refused reason) e = record e { refused = one_more_at (place_of reason) e.refused }

@@ -4,8 +4,8 @@ use Rattle.std.specs.List.{count_by}
 use Rattle.edge_traits.specs.Link.{is_failed_put}
 use Rattle.dc_sign.specs.declared.outcome.Refusal.{Refusal}
 use Rattle.dc_sign.specs.declared.outcome.Refusal.TheVariants.{BadLength, BadVersion, BadMode, UnknownAccount, NoOldKey}
-use Rattle.dc_sign.specs.declared.tally.Outcome.{Outcome}
-use Rattle.dc_sign.specs.declared.tally.Outcome.TheVariants.{Signed, Plain, Refused, Quiet, Lost}
+use Rattle.dc_sign.specs.declared.tally.TurnOutcome.{TurnOutcome}
+use Rattle.dc_sign.specs.declared.tally.TurnOutcome.TheVariants.{Signed, Plain, Refused, Quiet, Lost}
 use Rattle.dc_sign.specs.declared.tally.ServeEnd.{ServeEnd}
 use Rattle.dc_sign.specs.declared.tally.ServeWhy.{ServeWhy}
 
@@ -18,7 +18,7 @@ place_of UnknownAccount = 3
 place_of NoOldKey = 4
 
 -- a signed reply, whether or not its send failed
-abbrev pub is_signed : Outcome → Bool
+abbrev pub is_signed : TurnOutcome → Bool
 is_signed (Signed put) = true
 is_signed (Plain put) = false
 is_signed (Refused reason) = false
@@ -26,7 +26,7 @@ is_signed Quiet = false
 is_signed Lost = false
 
 -- a plain reply, whether or not its send failed
-abbrev pub is_plain : Outcome → Bool
+abbrev pub is_plain : TurnOutcome → Bool
 is_plain (Signed put) = false
 is_plain (Plain put) = true
 is_plain (Refused reason) = false
@@ -34,7 +34,7 @@ is_plain Quiet = false
 is_plain Lost = false
 
 -- no reply, for this reason
-abbrev pub is_refused : Refusal → Outcome → Bool
+abbrev pub is_refused : Refusal → TurnOutcome → Bool
 is_refused reason (Signed put) = false
 is_refused reason (Plain put) = false
 is_refused reason (Refused given) = place_of given == place_of reason
@@ -42,7 +42,7 @@ is_refused reason Quiet = false
 is_refused reason Lost = false
 
 -- nothing came
-abbrev pub is_quiet : Outcome → Bool
+abbrev pub is_quiet : TurnOutcome → Bool
 is_quiet (Signed put) = false
 is_quiet (Plain put) = false
 is_quiet (Refused reason) = false
@@ -50,7 +50,7 @@ is_quiet Quiet = true
 is_quiet Lost = false
 
 -- a failed receive
-abbrev pub is_lost : Outcome → Bool
+abbrev pub is_lost : TurnOutcome → Bool
 is_lost (Signed put) = false
 is_lost (Plain put) = false
 is_lost (Refused reason) = false
@@ -58,7 +58,7 @@ is_lost Quiet = false
 is_lost Lost = true
 
 -- a reply whose send failed
-abbrev pub is_unsent : Outcome → Bool
+abbrev pub is_unsent : TurnOutcome → Bool
 is_unsent (Signed put) = is_failed_put put
 is_unsent (Plain put) = is_failed_put put
 is_unsent (Refused reason) = false
@@ -66,11 +66,11 @@ is_unsent Quiet = false
 is_unsent Lost = false
 
 -- how many of them there are, as far as 32 bits go
-abbrev pub number : (Outcome → Bool) → List Outcome → ℕ
+abbrev pub number : (TurnOutcome → Bool) → List TurnOutcome → ℕ
 number is outcomes = min (count_by is outcomes) (2 ^ 32 - 1)
 
 -- all that is counted
-abbrev pub numbers_of : List Outcome → ServeWhy → ServeEnd
+abbrev pub numbers_of : List TurnOutcome → ServeWhy → ServeEnd
 numbers_of outcomes why = record {
   signed = number is_signed outcomes;
   plain = number is_plain outcomes;

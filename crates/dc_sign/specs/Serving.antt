@@ -15,8 +15,8 @@ use Rattle.dc_sign.specs.declared.info.ServerInfo.{ServerInfo}
 use Rattle.dc_sign.specs.declared.outcome.Answer.{Answer}
 use Rattle.dc_sign.specs.declared.outcome.Answer.TheVariants as answer
 use Rattle.dc_sign.specs.declared.outcome.Refusal.{Refusal}
-use Rattle.dc_sign.specs.declared.tally.Outcome.{Outcome}
-use Rattle.dc_sign.specs.declared.tally.Outcome.TheVariants as outcome
+use Rattle.dc_sign.specs.declared.tally.TurnOutcome.{TurnOutcome}
+use Rattle.dc_sign.specs.declared.tally.TurnOutcome.TheVariants as outcome
 use Rattle.dc_sign.specs.declared.tally.ServeEnd.{ServeEnd}
 use Rattle.dc_sign.specs.declared.tally.ServeWhy.{ServeWhy}
 use Rattle.dc_sign.specs.declared.tally.ServeWhy.TheVariants.{Done, ClockFault}
@@ -41,7 +41,7 @@ pub record Turn : Type 0 where
   pub receipt : Receipt
   pub readings : List ℤ
   pub sends : List Tried
-  pub outcome : Outcome
+  pub outcome : TurnOutcome
 
 -- a datagram came, the clock was read twice, and the one reply by the local information was sent to the sender
 pub record IsAnswered (accounts : List Account) (turn : Turn) (of_reply : List ℕ → Answer) (put : Put) : Type 0 where
@@ -75,7 +75,7 @@ pub record IsIdle (turn : Turn) (given : Receipt) : Type 0 where
   pub sent : turn.sends ≡ []
 
 -- what each outcome says of a turn
-abbrev pub IsTurnOf : List Account → Turn → Outcome → Type 0
+abbrev pub IsTurnOf : List Account → Turn → TurnOutcome → Type 0
 IsTurnOf accounts turn (outcome.Signed put) = IsAnswered accounts turn answer.Signed put
 IsTurnOf accounts turn (outcome.Plain put) = IsAnswered accounts turn answer.Plain put
 IsTurnOf accounts turn (outcome.Refused reason) = IsRefused accounts turn reason
@@ -96,7 +96,7 @@ readings_of turns = flat_map (λ (turn : Turn). turn.readings) turns
 abbrev pub sends_of : List Turn → List Tried
 sends_of turns = flat_map (λ (turn : Turn). turn.sends) turns
 
-abbrev pub outcomes_of : List Turn → List Outcome
+abbrev pub outcomes_of : List Turn → List TurnOutcome
 outcomes_of turns = map (λ (turn : Turn). turn.outcome) turns
 
 -- these receipts were given, and these sends were tried

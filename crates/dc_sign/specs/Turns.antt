@@ -4,7 +4,7 @@ use Rattle.base_specs.specs.Counts.{FailsTimes}
 use Rattle.edge_traits.specs.Clock.{GaveReadings}
 use Rattle.edge_traits.specs.Link.{failed_receipts, failed_sends}
 use Rattle.key_book.specs.declared.account.Account.{Account}
-use Rattle.dc_sign.specs.declared.tally.Outcome.{Outcome}
+use Rattle.dc_sign.specs.declared.tally.TurnOutcome.{TurnOutcome}
 use Rattle.dc_sign.specs.declared.tally.ServeEnd.{ServeEnd}
 use Rattle.dc_sign.specs.declared.tally.ServeWhy.TheVariants.{Done}
 use Rattle.dc_sign.specs.Numbers.{numbers_of}
@@ -19,7 +19,7 @@ pub record TakesTurn (accounts : List Account) (turn : Turn) (before now : Seen)
   pub no_clock_fault : now.clock_faults ≡ before.clock_faults
 
 -- a turn was taken, of which this came
-pub record TakesOne (accounts : List Account) (before now : Seen) (outcome : Outcome) : Type 0 where
+pub record TakesOne (accounts : List Account) (before now : Seen) (outcome : TurnOutcome) : Type 0 where
   pub turn : Turn
   pub is : turn.outcome ≡ outcome
   pub takes : TakesTurn accounts turn before now

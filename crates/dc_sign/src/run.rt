@@ -8,7 +8,7 @@ ghost use Rattle.dc_sign.specs.Sending.{Sends};
 ghost use Rattle.dc_sign.specs.Serving.{Serves, StopsUnread, seen};
 ghost use Rattle.dc_sign.specs.Turns.{TakesOne};
 
-use crate::tally::Outcome;
+use crate::tally::TurnOutcome;
 use crate::{Answer, ServeEnd, ServeWhy, ServerInfo, answer, two_readings};
 use edge_traits::{Addr, Clock, Datagram, Link, Put, Receipt};
 use key_book::Keys;
@@ -49,7 +49,11 @@ pub fn serve<L: Link, C: Clock, K: Keys>(
 }
 
 /// Takes one receipt, and answers it. None where a reading failed.
-fn take_turn<L: Link, C: Clock, K: Keys>(link: &mut L, clock: &mut C, keys: &K) -> Option<Outcome>
+fn take_turn<L: Link, C: Clock, K: Keys>(
+    link: &mut L,
+    clock: &mut C,
+    keys: &K,
+) -> Option<TurnOutcome>
     ensures turn { IfSome result (TakesOne (K.accounts keys.now)
         (seen (L.told link.old) (L.faults link.old) (C.told clock.old) (C.faults clock.old))
         (seen (L.told link.new) (L.faults link.new) (C.told clock.new) (C.faults clock.new))) }
@@ -64,20 +68,20 @@ fn take_turn<L: Link, C: Clock, K: Keys>(link: &mut L, clock: &mut C, keys: &K) 
             let answer = answer(keys, &info, request.as_slice(), t2, t3);
             Some(send_answer(link, from, &answer))
         }
-        Receipt::Quiet => Some(Outcome::Quiet),
-        Receipt::Failed => Some(Outcome::Lost),
+        Receipt::Quiet => Some(TurnOutcome::Quiet),
+        Receipt::Failed => Some(TurnOutcome::Lost),
     }
 }
 
 /// Sends an answer, where it is a reply.
-fn send_answer<L: Link>(link: &mut L, to: Addr, answer: &Answer) -> Outcome
+fn send_answer<L: Link>(link: &mut L, to: Addr, answer: &Answer) -> TurnOutcome
     ensures { Sends to answer.now (L.told link.old) (L.told link.new)
         (L.faults link.old) (L.faults link.new) result }
 {
     match answer {
-        Answer::Signed(reply) => Outcome::Signed(send_reply(link, to, reply)),
-        Answer::Plain(reply) => Outcome::Plain(send_reply(link, to, reply)),
-        Answer::Refused(reason) => Outcome::Refused(*reason),
+        Answer::Signed(reply) => TurnOutcome::Signed(send_reply(link, to, reply)),
+        Answer::Plain(reply) => TurnOutcome::Plain(send_reply(link, to, reply)),
+        Answer::Refused(reason) => TurnOutcome::Refused(*reason),
     }
 }
 

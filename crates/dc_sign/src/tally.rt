@@ -7,7 +7,7 @@ use edge_traits::Put;
 
 /// What came of one receipt.
 #[derive(Clone, Copy)]
-pub(crate) enum Outcome {
+pub(crate) enum TurnOutcome {
     /// A signed reply, whose send was answered so.
     Signed(Put),
     /// A plain reply, whose send was answered so.
@@ -70,24 +70,24 @@ impl ServeEnd {
     }
 
     /// Counts what came of a receipt.
-    pub(crate) fn count(&mut self, outcome: Outcome)
+    pub(crate) fn count(&mut self, outcome: TurnOutcome)
         ensures { self.new ≡ counted outcome self.old }
     {
         match outcome {
-            Outcome::Signed(put) => {
+            TurnOutcome::Signed(put) => {
                 self.signed = self.signed.saturating_add(1);
                 self.count_send(put);
             }
-            Outcome::Plain(put) => {
+            TurnOutcome::Plain(put) => {
                 self.plain = self.plain.saturating_add(1);
                 self.count_send(put);
             }
-            Outcome::Refused(reason) => {
+            TurnOutcome::Refused(reason) => {
                 let place = place_of(reason);
                 self.refused[place] = self.refused[place].saturating_add(1);
             }
-            Outcome::Quiet => self.quiet = self.quiet.saturating_add(1),
-            Outcome::Lost => self.lost = self.lost.saturating_add(1),
+            TurnOutcome::Quiet => self.quiet = self.quiet.saturating_add(1),
+            TurnOutcome::Lost => self.lost = self.lost.saturating_add(1),
         }
     }
 
