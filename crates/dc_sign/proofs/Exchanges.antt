@@ -1,17 +1,17 @@
--- What a link did over several calls, and what one turn does with link and clock.
-use Rattle.std.proofs.Common.{◌≡◌, ℕ, ℤ, List, [], ◌∷◌, ◌++◌, Option, Some, None, refl, sym, subst, append_assoc}
+-- What a call of a link did, and what one turn does with link and clock.
+use Rattle.std.proofs.Common.{◌≡◌, ℕ, ℤ, List, [], ◌∷◌, ◌++◌, Option, refl, sym, subst}
 use Rattle.std.proofs.lemmas.List.{append-nil}
 use Rattle.base_specs.specs.Counts.{FailsTimes}
 use Rattle.base_specs.proofs.Counting.{fails_more}
-use Rattle.base_specs.proofs.Telling.{changed_as, changed_more}
+use Rattle.base_specs.proofs.Telling.{changed_as}
 use Rattle.edge_traits.specs.Clock.{GaveReadings}
-use Rattle.edge_traits.specs.Link.{GaveReceipts, LinkTold, ReceiptCounts, TriedSends, failed_receipts, failed_sends}
+use Rattle.edge_traits.specs.Link.{Exchanged, GaveReceipts, LinkTold, ReceiptCounts, TriedSends, failed_receipts, failed_sends}
 use Rattle.edge_traits.specs.declared.datagram.Addr.{Addr}
 use Rattle.edge_traits.specs.declared.link.Receipt.{Receipt}
 use Rattle.edge_traits.specs.declared.link.Receipt.TheVariants as receipt
 use Rattle.edge_traits.specs.declared.link.Tried.{Tried}
 use Rattle.edge_traits.proofs.Clocks.{gave_none}
-use Rattle.edge_traits.proofs.Links.{receipt_counts, send_counts}
+use Rattle.edge_traits.proofs.Links.{exchanged_more, receipt_counts, send_counts}
 use Rattle.key_book.specs.declared.account.Account.{Account}
 use Rattle.dc_sign.specs.declared.info.ServerInfo.{ServerInfo}
 use Rattle.dc_sign.specs.declared.outcome.Answer.{Answer}
@@ -21,26 +21,16 @@ use Rattle.dc_sign.specs.declared.tally.TurnOutcome.TheVariants as outcome
 use Rattle.dc_sign.specs.Info.{IsLocalInfo}
 use Rattle.dc_sign.specs.Reply.{Answers}
 use Rattle.dc_sign.specs.Sending.{Sends}
-use Rattle.dc_sign.specs.Serving.{Exchanged, Seen}
+use Rattle.dc_sign.specs.Serving.{Seen}
 use Rattle.dc_sign.specs.Turns.{TakesOne}
 
 -- ---- The link
 
-pub exchanged_none : (told : Option LinkTold) → Exchanged told told [] []
-exchanged_none None = tt
-exchanged_none (Some told) = λ i. record { sends = sym (append-nil told.sends) i; receipts = sym (append-nil told.receipts) i }
-
-pub exchanged_more : (old mid new : Option LinkTold) (given later : List Receipt) (tried next : List Tried)
-    → Exchanged old mid given tried → Exchanged mid new later next → Exchanged old new (given ++ later) (tried ++ next)
-exchanged_more old mid new given later tried next first second =
-    changed_as _ _ old new (λ (t : LinkTold). λ i. record { sends = append_assoc t.sends tried next i; receipts = append_assoc t.receipts given later i })
-    (changed_more _ _ old mid new first second)
-
-received : (old new : Option LinkTold) (given : List Receipt) → GaveReceipts old new given → Exchanged old new given []
+received : (old new : Option LinkTold) (given : List Receipt) → GaveReceipts old new given → Exchanged old new [] given
 received old new given gave =
     changed_as _ _ old new (λ (t : LinkTold). λ i. record { sends = sym (append-nil t.sends) i; receipts = t.receipts ++ given }) gave
 
-tried : (old new : Option LinkTold) (sends : List Tried) → TriedSends old new sends → Exchanged old new [] sends
+tried : (old new : Option LinkTold) (sends : List Tried) → TriedSends old new sends → Exchanged old new sends []
 tried old new sends did =
     changed_as _ _ old new (λ (t : LinkTold). λ i. record { sends = t.sends ++ sends; receipts = sym (append-nil t.receipts) i }) did
 
@@ -103,7 +93,7 @@ answered_turn accounts info from request t2 t3 (answer.Signed reply) result befo
           answers = answers;
           sent = refl;
         };
-        exchanged = exchanged_more before.link link now.link got [] [] (sent ∷ []) (received before.link link got gave) (tried link now.link (sent ∷ []) sends.tried);
+        exchanged = exchanged_more before.link link now.link [] (sent ∷ []) got [] (received before.link link got gave) (tried link now.link (sent ∷ []) sends.tried);
         read = read;
         link_failed = fails_more (failed_receipts got) (failed_sends (sent ∷ [])) before.link_faults link_faults now.link_faults
             (receipt_counts (receipt.Got from request) before.link_faults link_faults counts) (send_counts sent link_faults now.link_faults sends.counts);
@@ -130,7 +120,7 @@ answered_turn accounts info from request t2 t3 (answer.Plain reply) result befor
           answers = answers;
           sent = refl;
         };
-        exchanged = exchanged_more before.link link now.link got [] [] (sent ∷ []) (received before.link link got gave) (tried link now.link (sent ∷ []) sends.tried);
+        exchanged = exchanged_more before.link link now.link [] (sent ∷ []) got [] (received before.link link got gave) (tried link now.link (sent ∷ []) sends.tried);
         read = read;
         link_failed = fails_more (failed_receipts got) (failed_sends (sent ∷ [])) before.link_faults link_faults now.link_faults
             (receipt_counts (receipt.Got from request) before.link_faults link_faults counts) (send_counts sent link_faults now.link_faults sends.counts);
@@ -139,7 +129,7 @@ answered_turn accounts info from request t2 t3 (answer.Plain reply) result befor
     }
 answered_turn accounts info from request t2 t3 (answer.Refused reason) result before now link link_faults gave counts read no_fault local answers sends =
     let got = receipt.Got from request ∷ [] in
-    let Told : Option LinkTold → Type 0 = λ (told : Option LinkTold). Exchanged before.link told got [] in
+    let Told : Option LinkTold → Type 0 = λ (told : Option LinkTold). Exchanged before.link told [] got in
     let Failed : ℕ → Type 0 = λ (faults : ℕ). FailsTimes 0 before.link_faults faults in
     record {
       turn = record { receipt = receipt.Got from request; readings = t2 ∷ t3 ∷ []; sends = []; outcome = outcome.Refused reason };

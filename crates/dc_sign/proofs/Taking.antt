@@ -10,7 +10,7 @@ use Rattle.edge_traits.specs.Link.{failed_receipts, failed_sends}
 use Rattle.edge_traits.specs.declared.link.Receipt.{Receipt}
 use Rattle.edge_traits.specs.declared.link.Tried.{Tried}
 use Rattle.edge_traits.proofs.Clocks.{gave_more, gave_none}
-use Rattle.edge_traits.proofs.Links.{failed_receipts-append, failed_sends-append}
+use Rattle.edge_traits.proofs.Links.{exchanged_more, exchanged_none, failed_receipts-append, failed_sends-append}
 use Rattle.key_book.specs.declared.account.Account.{Account}
 use Rattle.dc_sign.specs.declared.tally.TurnOutcome.{TurnOutcome}
 use Rattle.dc_sign.specs.declared.tally.ServeEnd.{ServeEnd}
@@ -20,7 +20,6 @@ use Rattle.dc_sign.specs.Counting.{counted}
 use Rattle.dc_sign.specs.Numbers.{numbers_of}
 use Rattle.dc_sign.specs.Serving.{StopsUnread, ServeEndsBy, IsTurn, Seen, Serves, Takes, Turn, outcomes_of, readings_of, receipts_of, sends_of}
 use Rattle.dc_sign.specs.Turns.{HasServed, TakesOne, TakesTurn}
-use Rattle.dc_sign.proofs.Exchanges.{exchanged_more, exchanged_none}
 use Rattle.dc_sign.proofs.Numbering.{numbers_more}
 
 -- ---- One turn more
@@ -50,7 +49,7 @@ takes_more accounts turns turn before mid now first next =
     let Failed : ℕ → Type 0 = λ (n : ℕ). FailsTimes n before.link_faults now.link_faults in
     record {
       are_turns = All-push (IsTurn accounts) turns turn first.are_turns next.is_turn;
-      exchanged = rw (receipts, sends) (exchanged_more before.link mid.link now.link (receipts_of turns) (turn.receipt ∷ []) (sends_of turns) turn.sends first.exchanged next.exchanged);
+      exchanged = rw (receipts, sends) (exchanged_more before.link mid.link now.link (sends_of turns) turn.sends (receipts_of turns) (turn.receipt ∷ []) first.exchanged next.exchanged);
       read = rw readings (gave_more before.clock mid.clock now.clock (readings_of turns) turn.readings first.read next.read);
       link_failed = rw (receipts, sends) (subst Failed (failed_more (receipts_of turns) (turn.receipt ∷ []) (sends_of turns) turn.sends)
           (fails_more _ _ before.link_faults mid.link_faults now.link_faults first.link_failed next.link_failed));

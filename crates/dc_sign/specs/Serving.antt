@@ -1,10 +1,9 @@
 -- A run of a controller: turn by turn one receipt, and what came of it.
-use Rattle.std.specs.Prelude.{◌≡◌, ◌+◌, ◌<◌, ℕ, ℤ, List, [], ◌∷◌, ◌++◌, All, length, map, Option, Some}
+use Rattle.std.specs.Prelude.{◌≡◌, ◌+◌, ◌<◌, ℕ, ℤ, List, [], ◌∷◌, All, length, map, Option, Some}
 use Rattle.std.specs.List.{flat_map}
 use Rattle.base_specs.specs.Counts.{Fails, FailsTimes}
-use Rattle.base_specs.specs.Told.{Changed}
 use Rattle.edge_traits.specs.Clock.{ClockTold, GaveReadings}
-use Rattle.edge_traits.specs.Link.{LinkTold, failed_receipts, failed_sends}
+use Rattle.edge_traits.specs.Link.{Exchanged, LinkTold, failed_receipts, failed_sends}
 use Rattle.edge_traits.specs.declared.datagram.Addr.{Addr}
 use Rattle.edge_traits.specs.declared.link.Receipt.{Receipt}
 use Rattle.edge_traits.specs.declared.link.Receipt.TheVariants as receipt
@@ -99,15 +98,11 @@ sends_of turns = flat_map (λ (turn : Turn). turn.sends) turns
 abbrev pub outcomes_of : List Turn → List TurnOutcome
 outcomes_of turns = map (λ (turn : Turn). turn.outcome) turns
 
--- these receipts were given, and these sends were tried
-abbrev pub Exchanged : Option LinkTold → Option LinkTold → List Receipt → List Tried → Type 0
-Exchanged old new given tried = Changed (λ (told : LinkTold). record { sends = told.sends ++ tried; receipts = told.receipts ++ given }) old new
-
 -- These turns were taken: their receipts, readings and sends are all that link and clock gave and took. The clock
 -- was not moved, none of its readings failed, and the link failed as often as receipts and sends say.
 pub record Takes (accounts : List Account) (turns : List Turn) (before now : Seen) : Type 0 where
   pub are_turns : All (IsTurn accounts) turns
-  pub exchanged : Exchanged before.link now.link (receipts_of turns) (sends_of turns)
+  pub exchanged : Exchanged before.link now.link (sends_of turns) (receipts_of turns)
   pub read : GaveReadings before.clock now.clock (readings_of turns)
   pub link_failed : FailsTimes (failed_receipts (receipts_of turns) + failed_sends (sends_of turns)) before.link_faults now.link_faults
   pub no_clock_fault : now.clock_faults ≡ before.clock_faults
@@ -117,7 +112,7 @@ pub record StopsUnread (before now : Seen) : Type 0 where
   pub from : Addr
   pub request : List ℕ
   pub given : List ℤ
-  pub got : Exchanged before.link now.link (receipt.Got from request ∷ []) []
+  pub got : Exchanged before.link now.link [] (receipt.Got from request ∷ [])
   pub no_link_fault : now.link_faults ≡ before.link_faults
   pub read : GaveReadings before.clock now.clock given
   pub fewer : length given < 2

@@ -7,7 +7,7 @@ use Rattle.base_specs.proofs.Counting.{fails_none, fails_once}
 use Rattle.base_specs.proofs.Telling.{changed_more, changed_as}
 use Rattle.edge_traits.specs.declared.link.Receipt.{Receipt}
 use Rattle.edge_traits.specs.declared.link.Tried.{Tried}
-use Rattle.edge_traits.specs.Link.{failed_receipts, failed_sends, is_failed_put, GaveReceipts, LinkTold, ReceiptCounts, TriedSends}
+use Rattle.edge_traits.specs.Link.{Exchanged, GaveReceipts, LinkTold, ReceiptCounts, TriedSends, failed_receipts, failed_sends, is_failed_put}
 use Rattle.edge_traits.specs.declared.link.Receipt.TheVariants as receipt
 use Rattle.edge_traits.specs.declared.sink.Put.{Put}
 use Rattle.edge_traits.specs.declared.sink.Put.TheVariants as write
@@ -32,6 +32,18 @@ tried_none (Some told) = ap (λ (l : List Tried). record told { sends = l }) (sy
 pub tried_more : (old mid new : Option LinkTold) (xs ys : List Tried) → TriedSends old mid xs → TriedSends mid new ys → TriedSends old new (xs ++ ys)
 tried_more old mid new xs ys first next =
     changed_as _ _ old new (λ (t : LinkTold). ap (λ (l : List Tried). record t { sends = l }) (append_assoc t.sends xs ys)) (changed_more _ _ old mid new first next)
+
+-- nothing was sent or received
+pub exchanged_none : (told : Option LinkTold) → Exchanged told told [] []
+exchanged_none None = tt
+exchanged_none (Some told) = λ i. record { sends = sym (append-nil told.sends) i; receipts = sym (append-nil told.receipts) i }
+
+-- sends and receipts, and then more of them
+pub exchanged_more : (old mid new : Option LinkTold) (tried next : List Tried) (given later : List Receipt)
+    → Exchanged old mid tried given → Exchanged mid new next later → Exchanged old new (tried ++ next) (given ++ later)
+exchanged_more old mid new tried next given later first second =
+    changed_as _ _ old new (λ (t : LinkTold). λ i. record { sends = append_assoc t.sends tried next i; receipts = append_assoc t.receipts given later i })
+    (changed_more _ _ old mid new first second)
 
 -- the receives that failed in one part of a run, and those in the next
 pub failed_receipts-append : (xs ys : List Receipt) → failed_receipts (xs ++ ys) ≡ failed_receipts xs + failed_receipts ys

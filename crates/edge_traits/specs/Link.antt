@@ -22,6 +22,11 @@ TriedSends old new tried = Changed (λ (told : LinkTold). record told { sends = 
 abbrev pub GaveReceipts : Option LinkTold → Option LinkTold → List Receipt → Type 0
 GaveReceipts old new given = Changed (λ (told : LinkTold). record told { receipts = told.receipts ++ given }) old new
 
+-- these sends were tried, and these receipts were given
+abbrev pub Exchanged : Option LinkTold → Option LinkTold → List Tried → List Receipt → Type 0
+Exchanged old new tried given =
+    Changed (λ (told : LinkTold). record { sends = told.sends ++ tried; receipts = told.receipts ++ given }) old new
+
 -- an address, a port, and at most 256 bytes
 abbrev pub ReceiptFits : Receipt → Type 0
 ReceiptFits (receipt.Got from bytes) =

@@ -12,7 +12,7 @@ use Rattle.line_text.specs.Text.{joined}
 use Rattle.edge_traits.specs.declared.link.Receipt.{Receipt}
 use Rattle.edge_traits.specs.declared.link.Tried.{Tried}
 use Rattle.edge_traits.specs.Clock.{ClockTold}
-use Rattle.edge_traits.specs.Link.{LinkTold, failed_receipts, failed_sends}
+use Rattle.edge_traits.specs.Link.{Exchanged, LinkTold, failed_receipts, failed_sends}
 use Rattle.capture_fmt.specs.declared.event.Event.{Event}
 use Rattle.capture_fmt.specs.declared.event.Event.TheVariants.{Life, Tick, Resync, Arrive}
 use Rattle.capture_fmt.specs.Event.{EventFits}
@@ -43,7 +43,7 @@ use Rattle.run_deeds.specs.Closing.{closing_by, closing_lines}
 use Rattle.run_deeds.specs.Counting.{ended, more, with_why}
 use Rattle.run_deeds.specs.Weaving.{Need, Start, Turns, WordFor, ReceiptNow, ReadingFor, Call, CallReading, CallWord, Round, RoundReading, Stood, Weaves, none, life, reads, draws, followed_by, turns_of, weave}
 use Rattle.run_deeds.specs.Deeds.{Deed, Take, Print, Ending, Whole, NoRecord, NoLine, IsWhole, all_done, along, cut_record, events_given, history_after, line_in, missing_in, posted_in, moves_in, printed, reasons_in, ticks_in}
-use Rattle.run_deeds.specs.Devices.{Exchanged, Faults, Given, IsBeforeTick, LifeEndsBy, NeedsDisk, NeedsMark, NeedsReading, Seen, SinkFailed, StopsAt, Timed, faults, posted_of, seen}
+use Rattle.run_deeds.specs.Devices.{Faults, Given, IsBeforeTick, LifeEndsBy, NeedsDisk, NeedsMark, NeedsReading, Seen, SinkFailed, StopsAt, Timed, faults, posted_of, seen}
 use Rattle.run_deeds.specs.Marks.{AddsNoMark, Covers, KeepsLoadable, MarksBeforeSends, Reserved, blocks_of}
 use Rattle.run_deeds.specs.Parts.{Part, Runs, Tallies}
 use Rattle.run_deeds.specs.Lives.{CallsForBlocks, KeptBy, Lives, Reports, Totals}
@@ -162,7 +162,7 @@ run_history deeds ending taken takes = taken_history [] deeds ending taken takes
 pub record Lived (conf : Conf) (turns : ℕ) (stood : Stood) (before now : Seen) (given : Given) (tried : List Tried) (taken : List Event) (ending : Ending) (need : Need) (end : LifeEnd) : Type 0 where
   pub weaves : Weaves conf (Start stood (Turns turns)) [] given.readings given.words given.receipts (taken ++ missing_in ending) need
   pub grows : Grows conf (reverse taken)
-  pub link : Exchanged before.link now.link given.receipts tried
+  pub link : Exchanged before.link now.link tried given.receipts
   pub requests : map posted_of tried ≡ requests_of conf (reverse taken)
   pub clock : Timed before.clock now.clock given.readings (moves_of conf (reverse taken))
   pub words : Added before.words now.words given.words

@@ -9,6 +9,7 @@ use Rattle.edge_traits.specs.declared.link.Tried.{Tried}
 use Rattle.edge_traits.specs.declared.clock.Move.{Move}
 use Rattle.edge_traits.specs.Clock.{ClockTold}
 use Rattle.edge_traits.specs.Link.{LinkTold, failed_sends}
+use Rattle.edge_traits.proofs.Links.{exchanged_none}
 use Rattle.capture_fmt.specs.declared.event.Event.{Event}
 use Rattle.capture_fmt.specs.Event.{EventFits}
 use Rattle.capture_fmt.specs.Record.{event_bytes}
@@ -27,7 +28,7 @@ use Rattle.run_deeds.specs.Counting.{counted, more}
 use Rattle.run_deeds.specs.Deeds.{Take, Whole, NoRecord, NoLine, along, moves_in, posted_in, reasons_by, ticks_by}
 use Rattle.run_deeds.specs.Devices.{faults, posted_of, seen}
 use Rattle.run_deeds.specs.Parts.{Tallies}
-use Rattle.run_deeds.proofs.Doing.{exchanged_none, made_moves, timed_none, tried_sends}
+use Rattle.run_deeds.proofs.Doing.{made_moves, timed_none, tried_sends}
 use Rattle.run_deeds.proofs.Stopping.{tallies_none}
 use Rattle.member_run.specs.Asking.{WrittenBy}
 use Rattle.member_run.specs.Taking.{Acts, Takes, nothing}

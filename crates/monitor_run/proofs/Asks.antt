@@ -6,7 +6,7 @@ use Rattle.base_specs.specs.Told.{Added}
 use Rattle.base_specs.proofs.Counting.{fails_more, fails_none}
 use Rattle.base_specs.proofs.Telling.{added_none, changed_more}
 use Rattle.edge_traits.specs.Clock.{ClockTold, GaveReadings}
-use Rattle.edge_traits.specs.Link.{GaveReceipts, LinkTold, TriedSends, failed_receipts, failed_sends}
+use Rattle.edge_traits.specs.Link.{Exchanged, GaveReceipts, LinkTold, TriedSends, failed_receipts, failed_sends}
 use Rattle.edge_traits.specs.Sink.{PutCounts}
 use Rattle.edge_traits.specs.declared.datagram.Addr.{Addr}
 use Rattle.edge_traits.specs.declared.link.Receipt.{Receipt}
@@ -14,13 +14,12 @@ use Rattle.edge_traits.specs.declared.link.Receipt.TheVariants as receipt
 use Rattle.edge_traits.specs.declared.link.Tried.{Tried}
 use Rattle.edge_traits.specs.declared.sink.Put.{Put}
 use Rattle.edge_traits.proofs.Clocks.{gave_more, gave_none}
-use Rattle.edge_traits.proofs.Links.{receipt_counts, send_counts}
+use Rattle.edge_traits.proofs.Links.{exchanged_none, receipt_counts, send_counts}
 use Rattle.ntp_wire.specs.declared.stamp.Stamp.{Stamp}
 use Rattle.monitor_run.specs.declared.asking.Heard.{Heard}
 use Rattle.monitor_run.specs.declared.why.MonitorWhy.{MonitorWhy}
 use Rattle.monitor_run.specs.declared.why.MonitorWhy.TheVariants.{ClockFault}
-use Rattle.monitor_run.specs.Asking.{Devices, Did, Exchanged, no_deed, readings_heard, receipts_heard, request_sent, words_of}
-use Rattle.monitor_run.proofs.Deeds.{exchanged_none}
+use Rattle.monitor_run.specs.Asking.{Devices, Did, no_deed, readings_heard, receipts_heard, request_sent, words_of}
 use Rattle.monitor_run.specs.Progress.{Asks, DrawsFewer, Hears, HearsUnread, StopsShort}
 
 -- ---- The link

@@ -1,27 +1,17 @@
 -- What was done one after the other.
-use Rattle.std.proofs.Common.{◌≡◌, ◌+◌, ℕ, List, [], ◌∷◌, ◌++◌, append_assoc, Option, Some, None, sym, ◌∙◌, ap, subst, arith}
+use Rattle.std.proofs.Common.{◌≡◌, ◌+◌, ℕ, List, [], ◌∷◌, ◌++◌, sym, ◌∙◌, ap, subst, arith}
 use Rattle.std.specs.List.{flat_map}
 use Rattle.std.proofs.lemmas.Grind.{flat_map-append}
 use Rattle.std.proofs.lemmas.List.{append-nil}
 use Rattle.base_specs.specs.Counts.{FailsTimes}
 use Rattle.base_specs.proofs.Counting.{fails_more, fails_none}
-use Rattle.base_specs.proofs.Telling.{added_more, added_none, changed_as, changed_more}
-use Rattle.edge_traits.specs.Link.{LinkTold, failed_receipts, failed_sends}
+use Rattle.base_specs.proofs.Telling.{added_more, added_none}
+use Rattle.edge_traits.specs.Link.{failed_receipts, failed_sends}
 use Rattle.edge_traits.specs.declared.link.Receipt.{Receipt}
 use Rattle.edge_traits.specs.declared.link.Tried.{Tried}
 use Rattle.edge_traits.proofs.Clocks.{gave_more, gave_none}
-use Rattle.edge_traits.proofs.Links.{failed_receipts-append, failed_sends-append}
-use Rattle.monitor_run.specs.Asking.{Asked, Deed, Devices, Did, Exchanged, deed_of, deeds_of, no_deed, then}
-
-pub exchanged_none : (told : Option LinkTold) → Exchanged told told [] []
-exchanged_none None = tt
-exchanged_none (Some told) = λ i. record { sends = sym (append-nil told.sends) i; receipts = sym (append-nil told.receipts) i }
-
-exchanged_more : (old mid new : Option LinkTold) (tried next : List Tried) (given later : List Receipt)
-    → Exchanged old mid tried given → Exchanged mid new next later → Exchanged old new (tried ++ next) (given ++ later)
-exchanged_more old mid new tried next given later first second =
-    changed_as _ _ old new (λ (t : LinkTold). λ i. record { sends = append_assoc t.sends tried next i; receipts = append_assoc t.receipts given later i })
-    (changed_more _ _ old mid new first second)
+use Rattle.edge_traits.proofs.Links.{exchanged_more, exchanged_none, failed_receipts-append, failed_sends-append}
+use Rattle.monitor_run.specs.Asking.{Asked, Deed, Devices, Did, deed_of, deeds_of, no_deed, then}
 
 -- nothing was done
 pub did_nothing : (now : Devices) → Did no_deed now now

@@ -2,9 +2,9 @@
 use Rattle.std.specs.Prelude.{◌+◌, ℕ, ℤ, List, [], ◌∷◌, ◌++◌, map, flat_map, Option}
 use Rattle.std.specs.List.{count_by}
 use Rattle.base_specs.specs.Counts.{FailsTimes}
-use Rattle.base_specs.specs.Told.{Added, Changed}
+use Rattle.base_specs.specs.Told.{Added}
 use Rattle.edge_traits.specs.Clock.{ClockTold, GaveReadings}
-use Rattle.edge_traits.specs.Link.{LinkTold, failed_receipts, failed_sends}
+use Rattle.edge_traits.specs.Link.{Exchanged, LinkTold, failed_receipts, failed_sends}
 use Rattle.edge_traits.specs.declared.datagram.Addr.{Addr}
 use Rattle.edge_traits.specs.declared.link.Receipt.{Receipt}
 use Rattle.edge_traits.specs.declared.link.Receipt.TheVariants as receipt
@@ -62,10 +62,6 @@ then first next = record {
   sends = first.sends ++ next.sends;
   receipts = first.receipts ++ next.receipts;
 }
-
--- these sends were tried, and these receipts were given
-abbrev pub Exchanged : Option LinkTold → Option LinkTold → List Tried → List Receipt → Type 0
-Exchanged old new tried given = Changed (λ (told : LinkTold). record { sends = told.sends ++ tried; receipts = told.receipts ++ given }) old new
 
 -- This is all that the devices gave and took. The clock was not moved, and the link failed as often as sends and
 -- receipts say.

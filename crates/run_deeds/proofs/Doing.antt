@@ -9,24 +9,14 @@ use Rattle.edge_traits.specs.declared.clock.Move.{Move}
 use Rattle.edge_traits.specs.declared.link.Receipt.{Receipt}
 use Rattle.edge_traits.specs.declared.link.Tried.{Tried}
 use Rattle.edge_traits.specs.Clock.{ClockTold, GaveReadings, MadeMoves}
-use Rattle.edge_traits.specs.Link.{GaveReceipts, LinkTold, ReceiptCounts, TriedSends, failed_receipts, failed_sends}
-use Rattle.edge_traits.proofs.Links.{failed_receipts-append, failed_sends-append, receipt_counts}
+use Rattle.edge_traits.specs.Link.{Exchanged, GaveReceipts, LinkTold, ReceiptCounts, TriedSends, failed_receipts, failed_sends}
+use Rattle.edge_traits.proofs.Links.{exchanged_more, exchanged_none, failed_receipts-append, failed_sends-append, receipt_counts}
 use Rattle.capture_fmt.specs.Event.{EventFits}
 use Rattle.time_machine.specs.declared.conf.Conf.{Conf}
 use Rattle.time_machine.specs.Events.{History}
 use Rattle.run_deeds.specs.Deeds.{Deed, Ending, Whole, along, all_done, history_after, moves_in, posted_in}
-use Rattle.run_deeds.specs.Devices.{Does, Exchanged, Faults, Given, Seen, Timed, posted_of, seen}
+use Rattle.run_deeds.specs.Devices.{Does, Faults, Given, Seen, Timed, posted_of, seen}
 use Rattle.run_deeds.proofs.Deeding.{all-append, all_done-append, along-append, captured-append, events_given-append, printed-append}
-
-pub exchanged_none : (told : Option LinkTold) → Exchanged told told [] []
-exchanged_none None = tt
-exchanged_none (Some told) = λ i. record { sends = sym (append-nil told.sends) i; receipts = sym (append-nil told.receipts) i }
-
-pub exchanged_more : (old mid new : Option LinkTold) (given later : List Receipt) (tried next : List Tried)
-    → Exchanged old mid given tried → Exchanged mid new later next → Exchanged old new (given ++ later) (tried ++ next)
-exchanged_more old mid new given later tried next first second =
-    changed_as _ _ old new (λ (t : LinkTold). λ i. record { sends = append_assoc t.sends tried next i; receipts = append_assoc t.receipts given later i })
-    (changed_more _ _ old mid new first second)
 
 pub timed_none : (told : Option ClockTold) → Timed told told [] []
 timed_none None = tt
@@ -67,7 +57,7 @@ does_then conf history given later tried next ds es ending before mid now first 
     let moves = along-append (moves_in conf) history ds (all_done es ending) in
     let Failed : ℕ → Type 0 = λ (n : ℕ). FailsTimes n before.link_faults now.link_faults in
     record {
-      link = exchanged_more before.link mid.link now.link given.receipts later.receipts tried next first.link second.link;
+      link = exchanged_more before.link mid.link now.link tried next given.receipts later.receipts first.link second.link;
       requests = map-append posted_of tried next ∙ ap (λ (l : List _). l ++ map posted_of next) first.requests
           ∙ ap (λ (l : List _). along (posted_in conf) history ds ++ l) second.requests
           ∙ sym requests ∙ sym (ap (along (posted_in conf) history) done);
@@ -82,7 +72,7 @@ does_then conf history given later tried next ds es ending before mid now first 
 -- ---- One call of a device
 
 -- these sends were tried, and nothing was received
-pub tried_sends : (old new : Option LinkTold) (tried : List Tried) → TriedSends old new tried → Exchanged old new [] tried
+pub tried_sends : (old new : Option LinkTold) (tried : List Tried) → TriedSends old new tried → Exchanged old new tried []
 tried_sends old new tried did =
     changed_as _ _ old new (λ (t : LinkTold). λ i. record { sends = t.sends ++ tried; receipts = sym (append-nil t.receipts) i }) did
 

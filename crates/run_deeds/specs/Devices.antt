@@ -7,7 +7,7 @@ use Rattle.edge_traits.specs.declared.clock.Move.{Move}
 use Rattle.edge_traits.specs.declared.link.Receipt.{Receipt}
 use Rattle.edge_traits.specs.declared.link.Tried.{Tried}
 use Rattle.edge_traits.specs.Clock.{ClockTold}
-use Rattle.edge_traits.specs.Link.{LinkTold, failed_receipts, failed_sends}
+use Rattle.edge_traits.specs.Link.{Exchanged, LinkTold, failed_receipts, failed_sends}
 use Rattle.capture_fmt.specs.declared.event.Event.{Event}
 use Rattle.capture_fmt.specs.declared.event.Event.TheVariants.{Life, Tick, Resync, Arrive}
 use Rattle.capture_fmt.specs.Event.{EventFits}
@@ -53,11 +53,6 @@ pub record Given : Type 0 where
   pub words : List ℕ
   pub receipts : List Receipt
 
--- these receipts were given, and these sends were tried
-abbrev pub Exchanged : Option LinkTold → Option LinkTold → List Receipt → List Tried → Type 0
-Exchanged old new given tried =
-    Changed (λ (told : LinkTold). record { sends = told.sends ++ tried; receipts = told.receipts ++ given }) old new
-
 -- these readings were given, and these corrections were made
 abbrev pub Timed : Option ClockTold → Option ClockTold → List ℤ → List Move → Type 0
 Timed old new given made =
@@ -70,7 +65,7 @@ posted_of tried = record { to = tried.to; bytes = tried.bytes }
 -- All that the devices gave and took from one moment to another: this was given, and of these deeds, after this
 -- history, each record was written, each request sent, each correction made and each line printed.
 pub record Does (conf : Conf) (history : History) (given : Given) (tried : List Tried) (deeds : List Deed) (ending : Ending) (before now : Seen) : Type 0 where
-  pub link : Exchanged before.link now.link given.receipts tried
+  pub link : Exchanged before.link now.link tried given.receipts
   pub requests : map posted_of tried ≡ along (posted_in conf) history (all_done deeds ending)
   pub clock : Timed before.clock now.clock given.readings (along (moves_in conf) history (all_done deeds ending))
   pub words : Added before.words now.words given.words

@@ -6,7 +6,7 @@ use Rattle.base_specs.specs.Told.{Added}
 use Rattle.line_text.specs.Text.{joined}
 use Rattle.edge_traits.specs.declared.link.Receipt.{Receipt}
 use Rattle.edge_traits.specs.declared.link.Tried.{Tried}
-use Rattle.edge_traits.specs.Link.{failed_receipts, failed_sends}
+use Rattle.edge_traits.specs.Link.{Exchanged, failed_receipts, failed_sends}
 use Rattle.capture_fmt.specs.declared.event.Event.{Event}
 use Rattle.capture_fmt.specs.declared.event.Event.TheVariants.{Life}
 use Rattle.capture_fmt.specs.Capture.{SpellsEvents}
@@ -28,7 +28,7 @@ use Rattle.run_deeds.specs.declared.life_end.Why.{Why}
 use Rattle.run_deeds.specs.declared.life_end.Why.TheVariants.{Done, DiskFault, BadVersion, StampsSpent, SinkFault}
 use Rattle.run_deeds.specs.Weaving.{Stood, Need, Start, Turns, Weaves, weave}
 use Rattle.run_deeds.specs.Deeds.{Ending, Whole, NoRecord, NoLine, Take, Print, missing_in, cut_record, reasons_by, ticks_by}
-use Rattle.run_deeds.specs.Devices.{Seen, Given, Exchanged, Timed, LifeEndsBy, IsBeforeTick, posted_of}
+use Rattle.run_deeds.specs.Devices.{Seen, Given, Timed, LifeEndsBy, IsBeforeTick, posted_of}
 use Rattle.run_deeds.specs.Parts.{is_quiet}
 use Rattle.run_deeds.specs.Closing.{closing_lines, closing_by}
 use Rattle.run_deeds.specs.Marks.{IsDue, KeepsLoadable, MarksBeforeSends, blocks_of}
@@ -88,7 +88,7 @@ pub record Lives (conf : Conf) (turns : ℕ) (entry exit : DiskTold) (before now
   pub grows : Grows conf (reverse events)
   -- the sends tried are the requests of that history, and the moves made its moves, of which no two answer one request
   pub tried : List Tried
-  pub link : Exchanged before.link now.link given.receipts tried
+  pub link : Exchanged before.link now.link tried given.receipts
   pub requests : map posted_of tried ≡ requests_of conf (reverse events)
   pub clock : Timed before.clock now.clock given.readings (moves_of conf (reverse events))
   pub once : MovesOnce (told conf (reverse events))
