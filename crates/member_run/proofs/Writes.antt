@@ -7,10 +7,11 @@ use Rattle.line_text.specs.Text.{joined}
 use Rattle.edge_traits.specs.declared.sink.Put.{Put}
 use Rattle.edge_traits.specs.declared.sink.Put.TheVariants as write
 use Rattle.edge_traits.specs.Sink.{PutCounts, Writes}
+use Rattle.time_machine.specs.Report.{total_line}
 use Rattle.run_deeds.specs.declared.life_end.LifeEnd.{LifeEnd}
 use Rattle.run_deeds.specs.declared.life_end.Why.{Why}
 use Rattle.run_deeds.specs.declared.life_end.Why.TheVariants.{Done, DiskFault, BadVersion, StampsSpent, ClockFault, EntropyFault, SinkFault}
-use Rattle.run_deeds.specs.Closing.{closing_lines, link_line, total_line}
+use Rattle.run_deeds.specs.Closing.{closing_lines, link_line}
 use Rattle.run_deeds.specs.Parts.{why_of}
 use Rattle.member_run.specs.Asking.{WrittenBy, ended_by}
 use Rattle.member_run.specs.Closing.{Closes}

@@ -16,14 +16,14 @@ use Rattle.time_machine.specs.declared.conf.Conf.{Conf}
 use Rattle.time_machine.specs.declared.outcome.Outcome.{Outcome}
 use Rattle.time_machine.specs.Events.{History}
 use Rattle.time_machine.specs.Machine.{outcome_at}
-use Rattle.time_machine.specs.Report.{line_of, report_of}
+use Rattle.time_machine.specs.Report.{line_of, report_of, total_line}
 use Rattle.time_machine.specs.Growing.{Grows}
 use Rattle.sntp_core.specs.declared.member.Member.{Member}
 use Rattle.replay_run.specs.declared.end.ReplayEnd.{ReplayEnd}
 use Rattle.replay_run.specs.declared.end.ReplayWhy.{ReplayWhy}
 use Rattle.replay_run.specs.declared.end.ReplayWhy.TheVariants as why
 use Rattle.replay_run.specs.Seen.{Seen}
-use Rattle.replay_run.specs.Totals.{AreTotals, total_line}
+use Rattle.replay_run.specs.Totals.{AreTotals}
 use Rattle.replay_run.specs.Replay.{history_of, ReplayEndsBy, IsBadAt, IsAtEnd, Replays}
 use Rattle.replay_run.specs.Running.{Runs, Closes, counted, why_of, why_of_put}
 use Rattle.replay_run.proofs.Counts.{totals_more}

@@ -17,12 +17,12 @@ use Rattle.capture_fmt.proofs.Histories.{no_event, one_history, no_fault_of_even
 use Rattle.time_machine.specs.declared.conf.Conf.{Conf}
 use Rattle.time_machine.specs.Events.{History}
 use Rattle.time_machine.specs.Growing.{Grows}
-use Rattle.time_machine.specs.Report.{report_of}
+use Rattle.time_machine.specs.Report.{report_of, total_line}
 use Rattle.replay_run.specs.declared.end.ReplayEnd.{ReplayEnd}
 use Rattle.replay_run.specs.declared.end.ReplayWhy.{ReplayWhy}
 use Rattle.replay_run.specs.declared.end.ReplayWhy.TheVariants as why
 use Rattle.replay_run.specs.Seen.{Seen}
-use Rattle.replay_run.specs.Totals.{AreTotals, total_line}
+use Rattle.replay_run.specs.Totals.{AreTotals}
 use Rattle.replay_run.specs.Replay.{history_of, IsRefused, IsDone, ShowsFault, ReplayEndsBy, Replays, ReportsAll}
 use Rattle.replay_run.specs.Judged.{IsBadRecord, EndsAt, ReplaysTo, SpellsGrowing}
 

@@ -12,13 +12,13 @@ use Rattle.capture_fmt.specs.Reader.{Shows}
 use Rattle.time_machine.specs.declared.conf.Conf.{Conf}
 use Rattle.time_machine.specs.Events.{History}
 use Rattle.time_machine.specs.Machine.{outcome_at}
-use Rattle.time_machine.specs.Report.{line_of, report_of}
+use Rattle.time_machine.specs.Report.{line_of, report_of, total_line}
 use Rattle.time_machine.specs.Growing.{Grows}
 use Rattle.replay_run.specs.declared.end.ReplayEnd.{ReplayEnd}
 use Rattle.replay_run.specs.declared.end.ReplayWhy.{ReplayWhy}
 use Rattle.replay_run.specs.declared.end.ReplayWhy.TheVariants.{Done, BadCapture, ReadFault, WriteFault}
 use Rattle.replay_run.specs.Seen.{Seen}
-use Rattle.replay_run.specs.Totals.{AreTotals, total_line}
+use Rattle.replay_run.specs.Totals.{AreTotals}
 
 -- the events of a capture as a history, of which the last event stands first
 abbrev pub history_of : List Event → History

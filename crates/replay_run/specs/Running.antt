@@ -11,14 +11,14 @@ use Rattle.capture_fmt.specs.Reader.{Reader, HasRead}
 use Rattle.time_machine.specs.declared.conf.Conf.{Conf}
 use Rattle.time_machine.specs.declared.outcome.Outcome.{Outcome}
 use Rattle.time_machine.specs.declared.outcome.Outcome.TheVariants.{Started, Idle, Sent, Moved, Refused}
-use Rattle.time_machine.specs.Report.{report_of}
+use Rattle.time_machine.specs.Report.{report_of, total_line}
 use Rattle.sntp_core.specs.declared.member.Member.{Member}
 use Rattle.sntp_core.specs.Standing.{conf_of, StandsForHistory}
 use Rattle.replay_run.specs.declared.end.ReplayEnd.{ReplayEnd}
 use Rattle.replay_run.specs.declared.end.ReplayWhy.{ReplayWhy}
 use Rattle.replay_run.specs.declared.end.ReplayWhy.TheVariants as why
 use Rattle.replay_run.specs.Seen.{Seen}
-use Rattle.replay_run.specs.Totals.{AreTotals, total_line}
+use Rattle.replay_run.specs.Totals.{AreTotals}
 use Rattle.replay_run.specs.Replay.{history_of}
 
 -- the numbers with this outcome counted

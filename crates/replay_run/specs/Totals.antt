@@ -1,5 +1,5 @@
--- What is counted of a history, and the line that says it.
-use Rattle.std.specs.Prelude.{◌≡◌, ℕ, Bool, true, false, List, [], ◌∷◌, ◌++◌, codes, decimal}
+-- What is counted of a history.
+use Rattle.std.specs.Prelude.{◌≡◌, ℕ, Bool, true, false}
 use Rattle.time_machine.specs.declared.conf.Conf.{Conf}
 use Rattle.time_machine.specs.declared.outcome.Outcome.{Outcome}
 use Rattle.time_machine.specs.declared.outcome.Outcome.TheVariants.{Started, Idle, Sent, Moved, Refused}
@@ -34,9 +34,3 @@ pub record AreTotals (conf : Conf) (history : History) (result : ReplayEnd) : Ty
   pub sent : result.sent ≡ sent_in conf history
   pub moved : result.moved ≡ moved_in conf history
   pub refused : result.refused ≡ refused_in conf history
-
--- the line with which a report closes
-abbrev pub total_line : (sent moved refused : ℕ) → List ℕ
-total_line sent moved refused =
-    codes "total sent=" ++ decimal sent ++ codes " moved=" ++ decimal moved
-    ++ codes " refused=" ++ decimal refused ++ 10 ∷ []

@@ -3,7 +3,6 @@ ghost use Rattle.std.specs.Prelude.{◌≡◌};
 ghost use Rattle.replay_run.specs.Running.{why_of};
 
 use capture_fmt::CaptureFault;
-use line_text::{Line, LineText};
 use sntp_core::Outcome;
 
 /// Why a replay ended.
@@ -34,9 +33,8 @@ pub struct ReplayEnd {
 }
 
 impl ReplayEnd {
-    ghost use Rattle.std.specs.Prelude.{◌≡◌, ◌++◌};
+    ghost use Rattle.std.specs.Prelude.{◌≡◌};
     ghost use Rattle.replay_run.specs.declared.end.ReplayWhy.{ReplayWhy};
-    ghost use Rattle.replay_run.specs.Totals.{total_line};
     ghost use Rattle.replay_run.specs.Running.{FitsNumbers, counted};
 
     /// Nothing was taken yet.
@@ -69,21 +67,6 @@ impl ReplayEnd {
         ensures { result ≡ record self { why = why } }
     {
         ReplayEnd { why, ..self }
-    }
-
-    /// The line with which a report closes.
-    pub(crate) fn total_line(&self) -> LineText
-        ensures { result ≡ total_line self.now.sent self.now.moved self.now.refused }
-    {
-        let mut line = Line::new();
-        line.add_text("total sent=");
-        line.add_number(self.sent);
-        line.add_text(" moved=");
-        line.add_number(self.moved);
-        line.add_text(" refused=");
-        line.add_number(self.refused);
-        line.add_text("\n");
-        LineText::from_line(&line)
     }
 }
 

@@ -17,7 +17,7 @@ use crate::{ReplayEnd, ReplayWhy};
 use capture_fmt::EventReader;
 use edge_traits::{Put, Sink, Source};
 use line_text::LineText;
-use sntp_core::{Conf, Member, line_of};
+use sntp_core::{Conf, Member, line_of, total_line};
 
 /// Steps a new member of these settings through the capture that the source gives. The line of each event is written
 /// in one write, but for a Tick that sends nothing, which has none; where the capture ends between two records the
@@ -94,7 +94,8 @@ fn close<O: Sink>(end: ReplayEnd, sink: &mut O) -> ReplayEnd
     ensures { Closes end result (O.written sink.old) (O.written sink.new)
         (O.faults sink.old) (O.faults sink.new) }
 {
-    match write_line(&end.total_line(), sink) {
+    let total = total_line(end.sent, end.moved, end.refused);
+    match write_line(&total, sink) {
         Put::Done => end.ended(ReplayWhy::Done),
         Put::Failed => end.ended(ReplayWhy::WriteFault),
     }

@@ -1,12 +1,9 @@
 -- The lines behind the last event of a run.
 use Rattle.std.specs.Prelude.{ℕ, List, [], ◌∷◌, ◌++◌, codes, decimal}
+use Rattle.time_machine.specs.Report.{total_line}
 use Rattle.run_deeds.specs.declared.life_end.LifeEnd.{LifeEnd}
 use Rattle.run_deeds.specs.declared.life_end.Why.{Why}
 use Rattle.run_deeds.specs.declared.life_end.Why.TheVariants.{Done}
-
-abbrev pub total_line : (sent moved refused : ℕ) → List ℕ
-total_line sent moved refused = codes "total sent=" ++ decimal sent ++ codes " moved=" ++ decimal moved
-    ++ codes " refused=" ++ decimal refused ++ 10 ∷ []
 
 abbrev pub link_line : (quiet lost : ℕ) → List ℕ
 link_line quiet lost = codes "link quiet=" ++ decimal quiet ++ codes " lost=" ++ decimal lost ++ 10 ∷ []

@@ -2,7 +2,8 @@
 //!
 //! [`Member`] keeps its settings, a mark, eight requests at most, a partner, a polling interval and a reading, and
 //! forgets the rest. It asks no device and takes no memory. `admits` says whether an event may come next, `step`
-//! takes it, `source` names the partner whose reply was last accepted, and [`line_of`] writes the line of an outcome.
+//! takes it, and `source` names the partner whose reply was last accepted. [`line_of`] writes the line of an outcome,
+//! and [`total_line`] the one with which a report closes.
 //!
 //! It stands on `time_machine`, which says what a history leads to, on `ms_auth` for messages and checksums, and on
 //! `phase_rule` for the judgement of an offset. The layer above may rely on this: where a member stands for a history
@@ -25,5 +26,5 @@ mod times;
 pub use laws::laws_of_members;
 pub use line_text::LineText;
 pub use member::Member;
-pub use report::line_of;
+pub use report::{line_of, total_line};
 pub use time_machine::{Conf, How, Outcome, Partners, Reason};

@@ -1,6 +1,6 @@
-//! The report line of what an event led to.
+//! The lines of a report.
 ghost use Rattle.std.specs.Prelude.{◌≡◌, ◌+◌, ◌++◌, ◌≤◌, length};
-ghost use Rattle.time_machine.specs.Report.{addr_text, how_text, line_of, reason_text};
+ghost use Rattle.time_machine.specs.Report.{addr_text, how_text, line_of, reason_text, total_line};
 
 use edge_traits::Addr;
 use line_text::{Line, LineText};
@@ -40,6 +40,22 @@ pub fn line_of(outcome: &Outcome) -> LineText
             line.add_text("\n");
         }
     }
+    LineText::from_line(&line)
+}
+
+/// The line with which a report closes, with its line feed: the requests sent, the corrections made and the datagrams
+/// refused.
+pub fn total_line(sent: u32, moved: u64, refused: u64) -> LineText
+    ensures text { result ≡ total_line sent moved refused }
+{
+    let mut line = Line::new();
+    line.add_text("total sent=");
+    line.add_number(sent);
+    line.add_text(" moved=");
+    line.add_number(moved);
+    line.add_text(" refused=");
+    line.add_number(refused);
+    line.add_text("\n");
     LineText::from_line(&line)
 }
 

@@ -1,4 +1,4 @@
--- The report of a history: a line for each event that has one.
+-- The report of a history: a line for each event that has one, and the line that closes it.
 use Rattle.std.specs.Prelude.{ℕ, ◌/◌, ◌%◌, ◌^◌, List, [], ◌∷◌, ◌++◌, codes, decimal}
 use Rattle.std.specs.Fmt.{signed_decimal}
 use Rattle.edge_traits.specs.declared.datagram.Addr.{Addr}
@@ -42,6 +42,12 @@ line_of (Sent to count bytes) = codes "send n=" ++ decimal count ++ codes " to="
 line_of (Moved count offset how) = codes "moved n=" ++ decimal count ++ codes " offset=" ++ signed_decimal offset
     ++ codes " by=" ++ how_text how ++ 10 ∷ []
 line_of (Refused reason) = codes "refused reason=" ++ reason_text reason ++ 10 ∷ []
+
+-- the line with which a report closes: how many requests were sent, corrections made, and datagrams refused
+abbrev pub total_line : (sent moved refused : ℕ) → List ℕ
+total_line sent moved refused =
+    codes "total sent=" ++ decimal sent ++ codes " moved=" ++ decimal moved
+    ++ codes " refused=" ++ decimal refused ++ 10 ∷ []
 
 -- the lines of a history, in the order of its events
 unfoldable pub report_of : Conf → History → List ℕ

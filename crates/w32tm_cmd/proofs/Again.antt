@@ -14,7 +14,7 @@ use Rattle.byte_codec.proofs.Numbers.{length-number_bytes}
 use Rattle.line_text.specs.Text.{joined}
 use Rattle.replay_run.specs.Totals.{AreTotals, is_refused}
 use Rattle.replay_run.specs.declared.end.ReplayEnd.{ReplayEnd}
-use Rattle.run_deeds.specs.Closing.{closing_by, closing_lines, link_line, total_line}
+use Rattle.run_deeds.specs.Closing.{closing_by, closing_lines, link_line}
 use Rattle.run_deeds.specs.Deeds.{Ending, Whole, NoRecord, NoLine, IsWhole, cut_record, missing_in, reasons_by}
 use Rattle.run_deeds.specs.Devices.{LifeEndsBy}
 use Rattle.run_deeds.specs.Lives.{Reports, Totals}
@@ -29,7 +29,7 @@ use Rattle.time_machine.specs.declared.outcome.Outcome.TheVariants.{Started, Idl
 use Rattle.time_machine.specs.Entries.{count_of, gather}
 use Rattle.time_machine.specs.Events.{History}
 use Rattle.time_machine.specs.Machine.{moves_by, moves_of, posted_by, requests_of, told}
-use Rattle.time_machine.specs.Report.{report_of}
+use Rattle.time_machine.specs.Report.{report_of, total_line}
 use Rattle.time_machine.specs.Told.{Told, has_sent, is_accepted}
 use Rattle.w32tm_cmd.specs.Again.{Records, ReplaysAgain, WritesSameLines}
 use Rattle.w32tm_cmd.specs.Member.{member_seen}
