@@ -141,7 +141,7 @@ fn read_account(text: &[u8]) -> Option<Account>
 {
     let (rid, keys) = cut(text, b':')?;
     let rid = read_decimal(rid)?;
-    let (current, previous) = read_keys(keys)?;
+    let (current, previous) = read_word_keys(keys)?;
     Some(Account {
         rid,
         current,
@@ -149,8 +149,8 @@ fn read_account(text: &[u8]) -> Option<Account>
     })
 }
 
-/// The current key, and the previous one where there is one.
-fn read_keys(text: &[u8]) -> Option<([u8; 16], Option<[u8; 16]>)>
+/// The current key, and the previous one behind a colon where there is one.
+fn read_word_keys(text: &[u8]) -> Option<([u8; 16], Option<[u8; 16]>)>
     ensures read { IfSome result (λ keys. SpellsKeys keys.0 keys.1 text.now) }
     ensures found { (current : List ℕ) (previous : Option (List ℕ))
         → SpellsKeys current previous text.now

@@ -1,5 +1,5 @@
 use Rattle.w32tm_text.proofs.Spelling.{keys_at}
-use Rattle.w32tm_text.proofs.words.read_keys.Goals as goal
+use Rattle.w32tm_text.proofs.words.read_word_keys.Goals as goal
 
 pub returns-in_err-read_key-in-Some-clause-found : goal.returns-in_err-read_key-in-Some-clause-found
 returns-in_err-read_key-in-Some-clause-found c current previous spells =
