@@ -3,7 +3,7 @@
 -- The lines are those of `lines` of std: a line feed ends a line, one carriage return just before it is
 -- dropped, an empty rest behind the last line feed is no line, and a last line without a line feed keeps what
 -- it ends with. Lines are numbered from 1.
-use Rattle.std.specs.Prelude.{◌≡◌, ◌⊎◌, ◌+◌, ◌==◌, ℕ, Bool, true, List, [], ◌∷◌, ◌++◌, length, filter, Any, AllPairs}
+use Rattle.std.specs.Prelude.{◌≡◌, ◌≢◌, ◌⊎◌, ◌+◌, ◌==◌, ℕ, Bool, true, List, [], ◌∷◌, ◌++◌, length, filter, Any, AllPairs}
 use Rattle.std.specs.List.{AllZip}
 use Rattle.std.specs.Str.Lines.{strip_carriage_return}
 use Rattle.text_grammar.specs.Bytes.{HasNo}
@@ -15,8 +15,9 @@ pub record EndsLine (text line rest : List ℕ) : Type 0 where
   pub parts : text ≡ raw ++ 10 ∷ rest
   pub line_is : line ≡ strip_carriage_return raw
 
--- a last line without a line feed, behind which nothing stands
+-- a last line without a line feed, behind which nothing stands; an empty text has none
 pub record IsLastLine (text line rest : List ℕ) : Type 0 where
+  pub some : text ≢ []
   pub none : HasNo 10 text
   pub line_is : line ≡ text
   pub rest_is : rest ≡ []
