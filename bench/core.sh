@@ -1,5 +1,6 @@
 #!/bin/bash
 # What an event costs a member: requests, replies of each kind, stray and forged ones, beside the digest alone.
+# Usage: bench/core.sh [ROUNDS], of 4,000 requests each; 500 where it isn't given.
 # Needs the built program: `rt run` in crates/core_bench leaves it in crates/core_bench/out/core_bench.
 set -u
 cd "$(dirname "$0")/.." || exit 1

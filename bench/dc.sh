@@ -3,6 +3,7 @@
 # installed, chronyd: requests a second, and time of the processor for each, which a busy machine changes least. 32
 # requests are on the way at any time. Of each kind several runs are made in turn, and the best counts.
 # Then the system calls of a request, and the memory after many and after few.
+# Usage: bench/dc.sh [REQUESTS [RUNS]]; 100,000 and 5 where they aren't given.
 # Needs gcc and the built program: `rt run` in crates/w32tm leaves it in crates/w32tm/out/w32tm. Calls are counted where
 # strace is. It ends by itself.
 set -u

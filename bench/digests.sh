@@ -5,7 +5,8 @@
 # 192 bytes, eight blocks of 128 with the padding. There are two ratios: to as many hashes of such inputs through
 # OpenSSL's EVP interface, which gets 64 and 176 bytes at a time; and to the blocks that it hashes where it gets 16384
 # bytes at a time. All is by processor time, so that a busy machine says the same.
-# Needs the built program: `rt run` in crates/digest_rate leaves it in crates/digest_rate/out/digest_rate.
+# Usage: bench/digests.sh
+# Needs OpenSSL's program and the built one: `rt run` in crates/digest_rate leaves it in crates/digest_rate/out/digest_rate.
 set -u
 cd "$(dirname "$0")/.." || exit 1
 program=crates/digest_rate/out/digest_rate
@@ -14,6 +15,10 @@ extended_count=400000
 if [ ! -x "$program" ]; then
     echo "bench/digests.sh: build the program first (rt run in crates/digest_rate)" >&2
     exit 1
+fi
+if ! command -v openssl >/dev/null; then
+    echo "bench/digests.sh: skipped, no openssl"
+    exit 0
 fi
 
 # Signatures per second.

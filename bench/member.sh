@@ -6,6 +6,7 @@
 # datagram comes. Of several runs of each, made in turn, the best counts.
 # So that it asks in each turn and not each second, its clock goes ahead 1.1 seconds at each reading (member_clock.c).
 # Then the system calls of a turn, and the memory after few and after many.
+# Usage: bench/member.sh [TURNS [RUNS]]; 100,000 and 5 where they aren't given.
 # Needs gcc and the built program: `rt run` in crates/w32tm leaves it in crates/w32tm/out/w32tm. Calls are counted where
 # strace is. It ends by itself.
 set -u

@@ -3,6 +3,7 @@
 # memory it had at most, there and with a tenth of the requests. The capture is made here: a life, and then again and
 # again a request, a forged reply to it and ten stray bytes, which are refused. Of five runs the fastest counts, by the
 # clock on the wall and by processor time, which a busy machine changes least.
+# Usage: bench/replay.sh [REQUESTS]; 33,333 where it isn't given.
 # Needs python3, GNU time and the built program: `rt run` in crates/w32tm leaves it in crates/w32tm/out/w32tm.
 set -u
 cd "$(dirname "$0")/.." || exit 1

@@ -2,14 +2,15 @@
 # What it costs to read a settings text of 20,000 account lines and 2,000 computer lines, beside `wc -l` in the same run,
 # and how that grows: the same with half as many lines. Each line is compared with all earlier ones of its kind.
 # All but the memory is by processor time, so that a busy machine says nearly the same; the load is printed beside it.
-# Needs the built program: `rt run` in crates/settings_bench leaves it in crates/settings_bench/out/settings_bench.
+# Usage: bench/settings.sh
+# Needs GNU time and the built program: `rt run` in crates/settings_bench leaves it in crates/settings_bench/out/settings_bench.
 set -u
 cd "$(dirname "$0")/.." || exit 1
 program=crates/settings_bench/out/settings_bench
-if [ ! -x "$program" ]; then
-    echo "bench/settings.sh: skipped, the program isn't built (rt run in crates/settings_bench)" >&2
-    exit 0
-fi
+for tool in "$program" /usr/bin/time; do
+    [ -x "$tool" ] ||
+        { echo "bench/settings.sh: $tool is missing (the program: rt run in crates/settings_bench)" >&2; exit 1; }
+done
 folder=$(mktemp -d) || exit 1
 trap 'rm -r "$folder"' EXIT
 

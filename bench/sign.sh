@@ -1,5 +1,6 @@
 #!/bin/bash
 # Wall time of 1,000 runs of `/sign` on the sample request beside 1,000 runs of `true`, and their ratio.
+# Usage: bench/sign.sh
 # Needs the built program: `rt run` in crates/w32tm leaves it in crates/w32tm/out/w32tm.
 set -u
 cd "$(dirname "$0")/.." || exit 1

@@ -1,6 +1,7 @@
 #!/bin/bash
 # What the commands say where words, settings, files or ports are wrong: code and line of each case beside what
 # docs/PROTOCOL.md has. Nothing leaves the machine, and it ends by itself.
+# Usage: examples/bad_input.sh
 # Needs the built program: `rt run` in crates/w32tm leaves it in crates/w32tm/out/w32tm.
 set -u
 cd "$(dirname "$0")/.." || exit 1

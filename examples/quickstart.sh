@@ -3,6 +3,7 @@
 # both print, and reads the member's capture again by `/replay`. It ends by itself, and leaves nothing behind; no clock
 # of the machine is set. Where the program isn't built yet it is proved and built first, which takes the Rattle kit and
 # some minutes.
+# Usage: examples/quickstart.sh
 set -u
 cd "$(dirname "$0")/.." || exit 1
 program=$PWD/crates/w32tm/out/w32tm

@@ -1,7 +1,9 @@
 #!/bin/bash
 # What Wireshark's dissector reads in requests and in the replies that `/sign` writes, field by field beside the lines of
-# `/show`. Needs the built program (`rt run` in crates/w32tm leaves it in crates/w32tm/out/w32tm), and Debian's tshark,
-# which brings text2pcap; without these two nothing is compared.
+# `/show`.
+# Usage: examples/peers/dissect.sh
+# Needs the built program (`rt run` in crates/w32tm leaves it in crates/w32tm/out/w32tm), and Debian's tshark, which brings
+# text2pcap; without these two nothing is compared.
 set -u
 cd "$(dirname "$0")/../.." || exit 1
 program=crates/w32tm/out/w32tm

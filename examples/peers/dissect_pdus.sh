@@ -1,7 +1,8 @@
 #!/bin/bash
 # What Wireshark's dissector reads in the PDUs of the constant SESSION of crates/rpc_pdu/src/tests.rt, which a test there
-# shows to be what `write_pdu` writes, beside what that test and its neighbours expect of the reader. Needs Debian's tshark,
-# which brings text2pcap; without these two nothing is compared.
+# shows to be what `write_pdu` writes, beside what that test and its neighbours expect of the reader.
+# Usage: examples/peers/dissect_pdus.sh
+# Needs Debian's tshark, which brings text2pcap; without these two nothing is compared.
 set -u
 cd "$(dirname "$0")/../.." || exit 1
 if ! command -v tshark >/dev/null || ! command -v text2pcap >/dev/null; then

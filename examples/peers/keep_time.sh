@@ -7,6 +7,7 @@
 # For that each request gets a digest on the way (signer.py). Then chronyd gets the member's requests as they are, and
 # hands its replies to a signing service, as in a Samba domain, which is signer.py too. At last chronyd has another key,
 # and nothing may be accepted.
+# Usage: examples/peers/keep_time.sh. KEEP_TIME_TURNS in the environment is the number of turns of each run, else 12.
 # Needs python3 and the built program (`rt run` in crates/w32tm leaves it in crates/w32tm/out/w32tm). Skipped without
 # Debian's chrony.
 set -u

@@ -1,5 +1,9 @@
 #!/usr/bin/env python3
-"""Prints what `w32tm /show:HEX` should, by Python's own struct: show.py HEX"""
+"""What `/show:HEX` has to print, by Python's own struct; it shares no line with it.
+
+show.py HEX
+    Prints the fields of the message that these hexadecimal digits spell, and ends with 1 where they spell none.
+"""
 import struct
 import sys
 

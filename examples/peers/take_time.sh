@@ -2,6 +2,7 @@
 # Clients that share no code with it take the time from `/dc`, plain and signed, and `/monitor` asks servers that share
 # no code with it. All of it is on loopback, where the machine allows it in a network of its own, with port 123; no
 # clock is set, and all ends by itself.
+# Usage: examples/peers/take_time.sh
 # Needs python3 and the built program (`rt run` in crates/w32tm leaves it in crates/w32tm/out/w32tm). Debian's chrony,
 # and ntpsec-ntpdig, ntpsec-ntpdate or sntp are asked where they are; what is missing is said.
 set -u

@@ -71,6 +71,7 @@ FaultCounts (fault.BadLength at) before now = now ≡ before
 FaultCounts (fault.Torn at) before now = now ≡ before
 FaultCounts (fault.TooLong at) before now = now ≡ before
 
+-- the count of the source's faults, by the answer of a reader
 abbrev pub NextCounts : Result (Option Event) CaptureFault → ℕ → ℕ → Type 0
 NextCounts (Ok event) before now = now ≡ before
 NextCounts (Err wrong) before now = FaultCounts wrong before now

@@ -27,6 +27,7 @@ plain size = record { size = size; may_be = λ n. true; flaw = Torn; behind = λ
 abbrev pub magic_number : ℕ
 magic_number = 0x57333254
 
+-- the field of these letters
 abbrev pub magic : Field
 magic = record { size = 4; may_be = λ n. n == magic_number; flaw = BadKind; behind = λ n. 0 }
 
@@ -38,6 +39,7 @@ reading = record { size = 8; may_be = λ n. nat_le n 4000000000000000000; flaw =
 abbrev pub word : Field
 word = plain 4
 
+-- a port
 abbrev pub port : Field
 port = plain 2
 

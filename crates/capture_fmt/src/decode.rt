@@ -30,6 +30,7 @@ pub(crate) fn event_at(bytes: &[u8]) -> Result<(Event, &[u8]), Flaw>
     }
 }
 
+/// A Life, by what stands behind the byte of its kind.
 fn life_at(bytes: &[u8]) -> Result<(Event, &[u8]), Flaw>
     ensures found { IfOk result (λ read. EventFits read.0
         × (layout.life_kind ∷ bytes.now ≡ event_bytes read.0 ++ read.1.now)) }
@@ -41,6 +42,7 @@ fn life_at(bytes: &[u8]) -> Result<(Event, &[u8]), Flaw>
     Ok((Event::Life { now, mark }, rest))
 }
 
+/// A Tick, by what stands behind the byte of its kind.
 fn tick_at(bytes: &[u8]) -> Result<(Event, &[u8]), Flaw>
     ensures found { IfOk result (λ read. EventFits read.0
         × (layout.tick_kind ∷ bytes.now ≡ event_bytes read.0 ++ read.1.now)) }
@@ -51,6 +53,7 @@ fn tick_at(bytes: &[u8]) -> Result<(Event, &[u8]), Flaw>
     Ok((Event::Tick { now, word }, rest))
 }
 
+/// A Resync, by what stands behind the byte of its kind.
 fn resync_at(bytes: &[u8]) -> Result<(Event, &[u8]), Flaw>
     ensures found { IfOk result (λ read. EventFits read.0
         × (layout.resync_kind ∷ bytes.now ≡ event_bytes read.0 ++ read.1.now)) }
@@ -62,6 +65,7 @@ fn resync_at(bytes: &[u8]) -> Result<(Event, &[u8]), Flaw>
     Ok((Event::Resync { now, word, flags }, rest))
 }
 
+/// An Arrive, by what stands behind the byte of its kind.
 fn arrive_at(bytes: &[u8]) -> Result<(Event, &[u8]), Flaw>
     ensures found { IfOk result (λ read. EventFits read.0
         × (layout.arrive_kind ∷ bytes.now ≡ event_bytes read.0 ++ read.1.now)) }

@@ -11,13 +11,13 @@ use slot_disk::MemoryDisk;
 use std::alloc::{AllocError, Global};
 use std::test::Fail;
 
-// How many sends and how many receipts a link keeps.
+/// How many sends and how many receipts a link keeps.
 const LINK_ROOM: usize = 300;
 
-// How many moves a clock keeps.
+/// How many moves a clock keeps.
 const MOVE_ROOM: usize = 30;
 
-// How many calls of a disk pass.
+/// How many calls of a disk pass.
 const DISK_ROOM: usize = 100;
 
 /// The sizes among these that aren't 0.
@@ -42,6 +42,7 @@ fn readings_of(alloc: Global, numbers: &[i64]) -> Result<Vec<i64>, AllocError>
         .collect(alloc)
 }
 
+/// The receipt of what comes.
 fn receipt_of(came: Came) -> Receipt
     ensures { IsNoFailure result }
 {
@@ -51,6 +52,7 @@ fn receipt_of(came: Came) -> Receipt
     }
 }
 
+/// The receipts of all that comes.
 fn receipts_of(alloc: Global, all: &[Came]) -> Result<Vec<Receipt>, AllocError>
     ensures { IfOk result (λ receipts. All IsNoFailure receipts.items) }
 {

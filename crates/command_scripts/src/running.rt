@@ -82,6 +82,7 @@ pub fn run(alloc: Global, texts: &[&str], input: &[u8], script: &Script) -> Resu
     Ok(carry_out(alloc, &words, devices))
 }
 
+/// Carries out the words over the devices, and looks at what these did.
 fn carry_out(alloc: Global, words: &Vec<String>, mut devices: Devices) -> Ran {
     let status = w32tm(alloc, words, &mut devices);
     Ran {
@@ -95,6 +96,7 @@ fn carry_out(alloc: Global, words: &Vec<String>, mut devices: Devices) -> Ran {
     }
 }
 
+/// The words as a command line has them.
 fn words_of(alloc: Global, texts: &[&str]) -> Result<Vec<String>, AllocError> {
     let mut words = Vec::new(alloc);
     for text in texts {
@@ -103,6 +105,7 @@ fn words_of(alloc: Global, texts: &[&str]) -> Result<Vec<String>, AllocError> {
     Ok(words)
 }
 
+/// The devices that do what the script says.
 fn devices_of(alloc: Global, input: &[u8], script: &Script) -> Result<Devices, Fail> {
     let (config, capture_in) = sources_of(alloc, input, script)?;
     let (out, capture_out) = sinks_of(alloc, script)?;

@@ -12,6 +12,7 @@ use anyhow::Context;
 use std::env;
 use work::{Work, done};
 
+/// Does the work that the words name, and prints what came of it.
 fn main(rt: HostRuntime) -> anyhow::Result<()> {
     let mut words = env::args(&rt)?.skip(1);
     let name = words

@@ -11,10 +11,13 @@ use std::alloc::{AllocError, Global};
 /// How many requests a round has.
 pub const REQUESTS: u32 = 4_000;
 
+/// The key of the member's account.
 pub const KEY: [u8; 16] = *b"0123456789abcdef";
 
+/// The RID of the member's account.
 pub const RID: u32 = 1103;
 
+/// The address that the member asks.
 pub const PARTNER: Addr = Addr {
     ip: 0x0A00_0002,
     port: 123,
@@ -125,6 +128,7 @@ fn stamp_of(now: i64) -> Stamp {
     }
 }
 
+/// Whether a clock may read this.
 pub fn is_reading(now: i64) -> bool
     ensures { IsTrue result → IsReading now }
 {

@@ -24,6 +24,7 @@ pub enum Work {
 }
 
 impl Work {
+    /// The work of this name.
     pub fn named(name: &str) -> Option<Work> {
         match name {
             "ticks" => Some(Work::Ticks),
@@ -85,6 +86,7 @@ fn count(counts: &mut Counts, member: &mut Member, event: &Event) {
     }
 }
 
+/// Whether the event came at a reading.
 fn is_read(event: &Event) -> bool
     ensures { IsTrue result → IsRead event.now }
 {

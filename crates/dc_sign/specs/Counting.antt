@@ -15,10 +15,12 @@ one_more n = min (n + 1) (2 ^ 32 - 1)
 abbrev pub one_more_at : ℕ → List ℕ → List ℕ
 one_more_at place numbers = set numbers place (one_more (slice_index numbers place))
 
+-- the numbers after a send that was answered so
 abbrev pub with_send : Put → ServeEnd → ServeEnd
 with_send write.Done e = e
 with_send write.Failed e = record e { unsent = one_more e.unsent }
 
+-- the numbers after one more receipt, of which this came
 abbrev pub counted : TurnOutcome → ServeEnd → ServeEnd
 counted (Signed put) e = with_send put (record e { signed = one_more e.signed })
 counted (Plain put) e = with_send put (record e { plain = one_more e.plain })

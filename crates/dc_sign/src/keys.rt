@@ -59,12 +59,14 @@ fn asked_of(tail: Tail) -> Option<Asked>
     }
 }
 
+/// Whether the version is none that is answered.
 fn has_bad_version(header: &Header) -> bool
     ensures { result ≡ is_bad_version header.now.version }
 {
     header.version < 1 || header.version > 4
 }
 
+/// Whether the mode is neither that of a client nor symmetric active.
 fn has_bad_mode(header: &Header) -> bool
     ensures { result ≡ is_bad_mode header.now.mode }
 {

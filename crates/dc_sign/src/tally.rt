@@ -91,6 +91,7 @@ impl ServeEnd {
         }
     }
 
+    /// Counts a send that failed.
     fn count_send(&mut self, put: Put)
         ensures { self.new ≡ with_send put self.old }
     {

@@ -14,16 +14,19 @@ use std::{env, io};
 /// Bytes in a key.
 const KEY_LEN: usize = 16;
 
-/// The RID, the poll exponent and the timestamp of the sample request.
+/// The RID of the sample request.
 const RID: u32 = 1103;
 
+/// Its poll exponent.
 const POLL: u8 = 10;
 
+/// Its transmit timestamp.
 const STAMP: Stamp = Stamp {
     seconds: 1,
     fraction: 7,
 };
 
+/// Ends with 1 where the words could not be had, or the result not be printed.
 fn main(rt: HostRuntime) -> ExitCode {
     match run(&rt) {
         Ok(()) => ExitCode::from(0),

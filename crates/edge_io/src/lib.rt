@@ -1,7 +1,8 @@
 //! The devices behind the traits of `edge_traits`: objects in memory, and the devices of the machine.
 //!
-//! The layers that only speak of devices stand on `edge_traits` alone. Those that make devices, as main and the
-//! tests, stand on this crate too; it hands on the traits and their answers.
+//! It stands on `edge_traits` and on the counts of `base_specs`. The layers that only speak of devices stand on
+//! `edge_traits` alone. Those that make devices, as main and the tests, stand on this crate too; it hands on the traits
+//! and their answers.
 //!
 //! An object in memory (`ScriptSource`, `ScriptSink`, `ScriptLink`, `ScriptClock`, `ScriptEntropy`, `ScriptWire`) is
 //! seen as the record of what it will do: what it has to give, its room, which of its calls fail, how many were made,
@@ -49,8 +50,8 @@ pub use edge_traits::{
 pub use entropy::ScriptEntropy;
 pub use file_sink::FileSink;
 pub use link::ScriptLink;
-pub use random::{RandomFile, file_source, random_file};
-pub use reader::ReaderSource;
+pub use random::{RandomFile, random_file};
+pub use reader::{ReaderSource, file_source};
 pub use real_clock::RealClock;
 pub use sink::{NullSink, ScriptSink};
 pub use source::ScriptSource;

@@ -1,10 +1,9 @@
-//! Random words of the machine, and the bytes of a file by its path.
+//! Random words of the machine.
 ghost use Rattle.std.specs.Prelude.{◌≡◌, None, Some};
 ghost use Rattle.std.specs.Option.{is_some};
 ghost use Rattle.edge_io.specs.Held.{TakesWord};
 ghost use Rattle.edge_traits.specs.Entropy.{DrawnCounts, Draws};
 
-use crate::ReaderSource;
 use edge_traits::{Drawn, Entropy};
 use std::fs;
 use std::io::{self, Read};
@@ -77,15 +76,9 @@ pub fn random_file<R: Files>(files: &R) -> io::Result<RandomFile<R::File>> {
     Ok(RandomFile::new(fs::open(files, "/dev/urandom")?))
 }
 
-/// The bytes of the file of this path, from its first. It fails where the file can't be opened.
-pub fn file_source<R: Files>(files: &R, path: &str) -> io::Result<ReaderSource<R::File>> {
-    Ok(ReaderSource::new(fs::open(files, path)?))
-}
-
 #[cfg(test)]
 mod tests {
     use super::*;
-    use edge_traits::{Source, Take};
     use std::test::Fail;
 
     #[test]
@@ -103,19 +96,6 @@ mod tests {
         let mut none = RandomFile::<&[u8]>::without_file();
         assert_eq!(rt; none.word(), Drawn::Failed);
         assert_eq!(rt; none.faults, 1);
-        Ok(())
-    }
-
-    #[test]
-    fn files_as_sources(rt: HostRuntime) -> Result<(), Fail> {
-        let mut buf = [0; 9];
-        let mut system = file_source(&rt, "/proc/sys/kernel/ostype")?;
-        assert_eq!(rt; system.read(&mut buf), Take::Bytes(6));
-        assert_eq!(rt; &buf[..6], b"Linux\n".as_slice());
-        assert_eq!(rt; system.read(&mut buf), Take::End);
-        let mut folder = file_source(&rt, "/")?;
-        assert_eq!(rt; folder.read(&mut buf), Take::Failed);
-        assert!(rt; file_source(&rt, "/proc/no/such/file").is_err());
         Ok(())
     }
 }

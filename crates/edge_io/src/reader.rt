@@ -1,4 +1,4 @@
-//! Bytes from any reader.
+//! Bytes from any reader, and from the file of a path.
 ghost use Rattle.std.specs.Prelude.{◌≡◌, ◌≢◌, ◌<◌, ◌≤◌, IfErr, IfOk, None, length};
 ghost use Rattle.std.specs.IoError.{error_kind};
 ghost use Rattle.std.specs.Io.KnownBytes.{ReadConsumes};
@@ -6,8 +6,10 @@ ghost use Rattle.edge_io.specs.Held.{ReaderGives};
 ghost use Rattle.edge_traits.specs.Source.{Gives, TakeCounts};
 
 use edge_traits::{Source, Take};
+use std::fs;
 use std::io::{self, ErrorKind, Read};
 use std::marker::Model;
+use std::rt::Files;
 
 /// A source over any reader. It tells nothing; of a reader whose bytes are known it gives exactly these.
 ///
@@ -63,6 +65,11 @@ impl<R: Read> Source for ReaderSource<R> {
     }
 }
 
+/// The bytes of the file of this path, from its first. It fails where the file can't be opened.
+pub fn file_source<R: Files>(files: &R, path: &str) -> io::Result<ReaderSource<R::File>> {
+    Ok(ReaderSource::new(fs::open(files, path)?))
+}
+
 /// Reads, and again as long as a signal cuts the read short. It gives up after 2^64 - 1 of them.
 fn read_again<R: Read>(reader: &mut R, buf: &mut [u8]) -> io::Result<usize>
     ensures within { IfOk result (λ count. count ≤ length buf.new) }
@@ -77,4 +84,23 @@ fn read_again<R: Read>(reader: &mut R, buf: &mut [u8]) -> io::Result<usize>
         }
     }
     Err(io::Error::from(ErrorKind::TimedOut))
+}
+
+#[cfg(test)]
+mod tests {
+    use super::*;
+    use std::test::Fail;
+
+    #[test]
+    fn files_as_sources(rt: HostRuntime) -> Result<(), Fail> {
+        let mut buf = [0; 9];
+        let mut system = file_source(&rt, "/proc/sys/kernel/ostype")?;
+        assert_eq!(rt; system.read(&mut buf), Take::Bytes(6));
+        assert_eq!(rt; &buf[..6], b"Linux\n".as_slice());
+        assert_eq!(rt; system.read(&mut buf), Take::End);
+        let mut folder = file_source(&rt, "/")?;
+        assert_eq!(rt; folder.read(&mut buf), Take::Failed);
+        assert!(rt; file_source(&rt, "/proc/no/such/file").is_err());
+        Ok(())
+    }
 }

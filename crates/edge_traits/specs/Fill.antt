@@ -10,6 +10,7 @@ abbrev pub Fills : Filled → List ℕ → Option (List ℕ) → Option (List �
 Fills (filled.Bytes n) buf old new = (n ≤ length buf) × Took old new (take n buf) × (n < length buf → IsUsedUp new)
 Fills filled.Failed buf old new = (xs : List ℕ) × (length xs < length buf) × Took old new xs
 
+-- the count of the source's faults, by how the buffer was filled
 abbrev pub FillCounts : Filled → ℕ → ℕ → Type 0
 FillCounts (filled.Bytes n) before now = now ≡ before
 FillCounts filled.Failed before now = Fails before now

@@ -10,8 +10,10 @@
 //! tells of what it gave and took. An object in memory tells it. A real file, socket or clock tells nothing, and the
 //! contracts above speak of it in the same words.
 //!
-//! The layer above may rely on the clauses of the traits alone. The objects in memory and the devices of the machine
-//! are those of `edge_io`. The definitions stand in `specs/`, a file a trait; `proofs/` carries them over several calls.
+//! It stands on `base_specs` for what an object tells, and on `arrayvec` for the bytes of a datagram. The layer above may
+//! rely on the clauses of the traits alone. The objects in memory and the devices of the machine are those of `edge_io`.
+//! The definitions stand in `specs/`, a file a trait, and `Fill.antt` for `fill_front`; `proofs/` carries them over several
+//! calls.
 #![tactic(auto)]
 
 mod clock;

@@ -1,11 +1,11 @@
 //! Where bytes go.
 
-/// Whether a write was done.
+/// Whether a call was done that gives nothing else: a write, a send of a link, and each call of a disk.
 #[derive(Clone, Copy, Debug, PartialEq, Eq)]
 pub enum Put {
-    /// All of the piece was taken.
+    /// It was done, and all of a piece was taken.
     Done,
-    /// The write failed, and a front of the piece may have been taken.
+    /// The call failed. Of a piece that was written a front may have been taken.
     Failed,
 }
 

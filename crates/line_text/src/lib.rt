@@ -4,8 +4,8 @@
 //! capacity, and each call that adds a piece asks for the room of it. A [`LineText`] holds a whole line of at most 96
 //! bytes, as the status line or a line of a report; a [`LongLine`] is one of a command's output.
 //!
-//! It stands on `arrayvec` for the bytes and on `itoa` and `hex` for the digits. The layer above sees both types as
-//! lists of bytes, and may rely on what each call adds to that list, and on every byte being ASCII.
+//! It stands on `arrayvec` and `byte_codec` for the bytes and on `itoa` and `hex` for the digits. The layer above sees
+//! both types as lists of bytes, and may rely on what each call adds to that list, and on every byte being ASCII.
 //!
 //! `specs/Line.antt` says which lists of bytes a line can hold, and `specs/Text.antt` what stands of a text in lines
 //! that breaks off. What a number adds is `itoa`'s word for its text, the standard library's `decimal` or

@@ -5,10 +5,10 @@ ghost use Rattle.mac_kdf.specs.Digests.{ext_digest, kdf, md5_digest};
 use crate::Hmac;
 use md5::{Digest, Md5};
 
-// The length of a derived key in bits.
+/// The length of a derived key in bits.
 const DERIVED_BITS: u32 = 512;
 
-// What the keys of the 120-byte message are derived for.
+/// What the keys of the 120-byte message are derived for: the label.
 const SNTP_LABEL: &[u8] = b"sntp-ms";
 
 /// A key of 64 bytes, derived from a key for a purpose (the label) and its circumstances (the context).

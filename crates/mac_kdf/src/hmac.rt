@@ -5,12 +5,13 @@ ghost use Rattle.mac_kdf.specs.Taken.{HasTaken};
 
 use sha2::{Digest, Sha512};
 
-// Bytes in a block of SHA-512.
+/// Bytes in a block of SHA-512.
 const BLOCK_LEN: usize = 128;
 
-// The bytes that mask the key in the inner and in the outer text (RFC 2104, section 2).
+/// The byte that masks the key in the inner text (RFC 2104, section 2).
 const INNER_PAD: u8 = 0x36;
 
+/// The byte that masks the key in the outer text.
 const OUTER_PAD: u8 = 0x5C;
 
 /// An HMAC-SHA512 that takes its text piece by piece (RFC 2104).
@@ -56,7 +57,7 @@ impl Hmac {
     }
 }
 
-// The key as one block: itself, or its digest where it is longer, and zero bytes after it.
+/// The key as one block: itself, or its digest where it is longer, and zero bytes after it.
 #[tactic(auto, unfolding(crate::specs::Hmac::block_key))]
 fn block_key(key: &[u8]) -> [u8; BLOCK_LEN]
     ensures { result ≡ block_key key.now }
@@ -68,7 +69,7 @@ fn block_key(key: &[u8]) -> [u8; BLOCK_LEN]
     }
 }
 
-// The bytes, and zero bytes after them to a block.
+/// The bytes, and zero bytes after them to a block.
 fn filled(bytes: &[u8]) -> [u8; BLOCK_LEN]
     requires { length bytes.now ≤ 128 }
     ensures { result ≡ bytes.now ++ replicate (128 - length bytes.now) 0 }
@@ -78,7 +79,7 @@ fn filled(bytes: &[u8]) -> [u8; BLOCK_LEN]
     block
 }
 
-// The block with each byte under the mask.
+/// The block with each byte under the mask.
 #[tactic(auto, unfolding(crate::specs::Hmac::masked))]
 fn masked(mut block: [u8; BLOCK_LEN], mask: u8) -> [u8; BLOCK_LEN]
     ensures { result ≡ masked mask block }

@@ -20,6 +20,7 @@ pub(crate) fn write_closing_lines<O: Sink>(end: &LifeEnd, out: &mut O) -> Result
     write_piece(link_line(end).as_slice(), out)
 }
 
+/// How many receipts were quiet, and how many calls of the link failed.
 fn link_line(end: &LifeEnd) -> LineText
     ensures text { result ≡ link_line end.now.quiet end.now.lost }
 {

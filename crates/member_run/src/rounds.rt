@@ -16,12 +16,13 @@ const ROUND: u32 = 16;
 /// The flag of a call that asks for the result of its round.
 const WITH_RESULT: u32 = 2;
 
-/// The results of a call: the clock was corrected or nothing was asked for, no time was available, and the correction
-/// would have been too big.
+/// The result of a call after which the clock was corrected, or which asked for no result.
 const DONE: u32 = 0;
 
+/// The result of a call after which no time was available.
 const NO_DATA: u32 = 1;
 
+/// The result of a call after which the correction would have been too big.
 const TOO_BIG: u32 = 3;
 
 impl Running {

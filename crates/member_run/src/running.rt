@@ -145,6 +145,21 @@ impl Running {
         self.receive(link, clock, out, capture)
     }
 
+    /// The place in rank, from 0, of the partner whose reply was last accepted in this run.
+    pub fn source(&self) -> Option<usize>
+        ensures { (history : History) → StandsForHistory (member_of self.now) history
+            → result ≡ source_of (conf_of (member_of self.now)) history }
+    {
+        self.member.source()
+    }
+
+    /// What the run came to so far. Its `why` is `Done`.
+    pub fn totals(&self) -> LifeEnd
+        ensures { result ≡ totals_of self.now }
+    {
+        self.totals
+    }
+
     /// The first part of a turn, up to the receipt.
     pub(crate) fn tick<L: Link, C: Clock, D: Disk, E: Entropy, O: Sink>(
         &mut self,
@@ -277,20 +292,5 @@ impl Running {
             (O.written out.old) (O.written out.new) (O.faults out.old) (O.faults out.new) }
     {
         write_closing_lines(&self.totals, out)
-    }
-
-    /// The place in rank, from 0, of the partner whose reply was last accepted in this run.
-    pub fn source(&self) -> Option<usize>
-        ensures { (history : History) → StandsForHistory (member_of self.now) history
-            → result ≡ source_of (conf_of (member_of self.now)) history }
-    {
-        self.member.source()
-    }
-
-    /// What the run came to so far. Its `why` is `Done`.
-    pub fn totals(&self) -> LifeEnd
-        ensures { result ≡ totals_of self.now }
-    {
-        self.totals
     }
 }

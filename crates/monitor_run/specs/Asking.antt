@@ -33,6 +33,7 @@ pub record Devices : Type 0 where
   pub words : Option (List ℕ)
   pub entropy_faults : ℕ
 
+-- the same, from its parts
 abbrev pub devices : Option LinkTold → ℕ → Option ClockTold → ℕ → Option (List ℕ) → ℕ → Devices
 devices link link_faults clock clock_faults words entropy_faults = record {
   link = link;
@@ -114,6 +115,7 @@ pub record Asked : Type 0 where
   pub entry : Entry
   pub ask : Ask
 
+-- what was found of an entry
 abbrev pub finding_at : Asked → Finding
 finding_at a = finding_by a.entry.addr a.ask.stamp a.ask.at a.ask.heard
 

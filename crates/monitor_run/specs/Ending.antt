@@ -19,18 +19,21 @@ abbrev pub FailsIf : Bool → ℕ → ℕ → Type 0
 FailsIf true before now = Fails before now
 FailsIf false before now = now ≡ before
 
+-- a reading of the clock failed
 abbrev pub is_clock_fault : MonitorWhy → Bool
 is_clock_fault Done = false
 is_clock_fault ClockFault = true
 is_clock_fault EntropyFault = false
 is_clock_fault WriteFault = false
 
+-- a draw of a random word failed
 abbrev pub is_entropy_fault : MonitorWhy → Bool
 is_entropy_fault Done = false
 is_entropy_fault ClockFault = false
 is_entropy_fault EntropyFault = true
 is_entropy_fault WriteFault = false
 
+-- a write failed
 abbrev pub is_write_fault : MonitorWhy → Bool
 is_write_fault Done = false
 is_write_fault ClockFault = false

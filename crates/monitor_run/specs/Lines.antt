@@ -6,6 +6,7 @@ use Rattle.monitor_run.specs.declared.finding.Finding.TheVariants.{Answered, Wro
 use Rattle.monitor_run.specs.declared.finding.Word.{Word}
 use Rattle.monitor_run.specs.declared.finding.Word.TheVariants.{NoAnswer, BadLength, BadSource, BadMode, BadStratum, NoRequest, BadTimes}
 
+-- the word of an error, as a line has it
 abbrev pub word_text : Word → List ℕ
 word_text NoAnswer = codes "NoAnswer"
 word_text BadLength = codes "BadLength"

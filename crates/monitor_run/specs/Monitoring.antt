@@ -13,6 +13,7 @@ pub record Seen : Type 0 where
   pub written : Option (List ℕ)
   pub write_faults : ℕ
 
+-- the same, from its parts
 abbrev pub seen : Devices → Option (List ℕ) → ℕ → Seen
 seen devices written write_faults = record { devices = devices; written = written; write_faults = write_faults }
 

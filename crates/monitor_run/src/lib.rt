@@ -10,7 +10,7 @@
 //!
 //! `specs/Finding.antt` has the words in their order, each by the answer's bytes, `specs/Request.antt` the request,
 //! `specs/Lines.antt` the lines, `specs/Asking.antt` what is done for one computer, and `specs/Ending.antt` how a run
-//! ends. `specs/Progress.antt` belongs to the private part.
+//! ends. `specs/Progress.antt` belongs to the private part. Its tests are runs, `monitors.rt` of `sntp_vectors`.
 #![tactic(auto)]
 
 mod asking;

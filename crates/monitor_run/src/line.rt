@@ -49,6 +49,7 @@ pub(crate) fn computers_line(computers: usize, answered: usize) -> LongLine
     line
 }
 
+/// The word as it is printed.
 fn word_text(word: Word) -> &'static str
     ensures text { result.now ≡ word_text word }
     ensures short { length result.now ≤ 10 }

@@ -61,7 +61,7 @@ pub fn monitor<L: Link, C: Clock, E: Entropy, O: Sink>(
     ask_all(directory, link, clock, entropy, out)
 }
 
-/// The same, by what the devices gave and took alone.
+/// The work of [`monitor`], by `Monitors` alone: the other clauses of that call follow from it.
 fn ask_all<L: Link, C: Clock, E: Entropy, O: Sink>(
     directory: &Directory,
     link: &mut L,

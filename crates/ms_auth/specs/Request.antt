@@ -45,5 +45,6 @@ abbrev pub request_tail_bytes : Kind → ℕ → List ℕ
 request_tail_bytes Short rid = low_word_bytes rid ++ replicate 16 0
 request_tail_bytes Extended rid = low_word_bytes rid ++ 0 ∷ 0 ∷ 1 ∷ 0 ∷ replicate 64 0
 
+-- the whole request as bytes
 abbrev pub request_bytes : Kind → ℕ → ℕ → Stamp → List ℕ
 request_bytes kind rid poll stamp = 0xDB ∷ 0 ∷ poll ∷ 0xE9 ∷ replicate 36 0 ++ stamp_bytes stamp ++ request_tail_bytes kind rid

@@ -11,9 +11,10 @@ use byte_codec::{add, add_u32_low_first, read_array, read_u32_low_first};
 use edge_traits::Datagram;
 use ntp_wire::{HEADER_LEN, read_header, write_header};
 
-/// Bytes behind the header of a short and of an extended message.
+/// Bytes behind the header of a short message.
 const SHORT_TAIL_LEN: usize = SHORT_LEN - HEADER_LEN;
 
+/// Bytes behind the header of an extended message.
 const EXTENDED_TAIL_LEN: usize = EXTENDED_LEN - HEADER_LEN;
 
 /// The message that the bytes spell, or `BadLength` exactly where they aren't 48, 68 or 120.
@@ -60,6 +61,7 @@ fn spelling_of(packet: Packet) -> ArrayVec<u8, 256>
     bytes
 }
 
+/// Adds the bytes of a tail, the numbers in it with their least significant byte first.
 fn add_tail(bytes: &mut ArrayVec<u8, 256>, tail: Tail)
     requires { array_vec_len bytes.old ≤ 48 }
     ensures items { bytes.new.items ≡ bytes.old.items ++ tail_bytes tail }
@@ -99,6 +101,7 @@ fn read_tail(bytes: &[u8]) -> Result<Tail, BadLength>
     }
 }
 
+/// The tail that 20 bytes spell.
 fn short_tail(bytes: &[u8]) -> Tail
     requires { length bytes.now ≡ 20 }
     ensures { SpellsTail result bytes.now }
@@ -108,6 +111,7 @@ fn short_tail(bytes: &[u8]) -> Tail
     Tail::Short68 { key_id, sum }
 }
 
+/// The tail that 72 bytes spell.
 fn extended_tail(bytes: &[u8]) -> Tail
     requires { length bytes.now ≡ 72 }
     ensures { SpellsTail result bytes.now }

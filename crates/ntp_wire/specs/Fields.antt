@@ -5,6 +5,7 @@ use Rattle.ntp_wire.specs.declared.header.Header.{Header}
 use Rattle.ntp_wire.specs.declared.stamp.Stamp.{Stamp}
 use Rattle.ntp_wire.specs.Stamp.{stamp_at}
 
+-- each field by its place, the bits of the first byte apart
 abbrev pub leap_of : List ℕ → ℕ
 leap_of bytes = slice_index bytes 0 / 64
 

@@ -67,6 +67,7 @@ fn header_of(bytes: &[u8]) -> Header
     }
 }
 
+/// The timestamp that the bytes begin with, and what stands behind it.
 fn read_stamp(bytes: &[u8]) -> (Stamp, &[u8])
     requires { 8 ≤ length bytes.now }
     ensures bytes { bytes.now ≡ stamp_bytes result.0 ++ result.1.now }
@@ -105,6 +106,7 @@ fn head_of(header: &Header) -> [u8; 4]
     [first, header.stratum, poll, precision]
 }
 
+/// Adds the eight bytes of a timestamp.
 fn add_stamp(bytes: &mut ArrayVec<u8, 48>, stamp: Stamp)
     requires { array_vec_len bytes.old + 8 ≤ 48 }
     ensures items { bytes.new.items ≡ bytes.old.items ++ stamp_bytes stamp }

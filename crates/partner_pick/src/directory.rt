@@ -71,7 +71,7 @@ impl Directory {
         self.entries.push(entry).map_err(|_| AddFault::NoMemory)
     }
 
-    // Whether there is an entry of this name.
+    /// Whether there is an entry of this name.
     fn has(&self, name: &NameText) -> bool
         ensures { IsTrue result ↔ HasName self.now name.now }
     {

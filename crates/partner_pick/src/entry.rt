@@ -47,15 +47,15 @@ pub fn score(entry: &Entry) -> u8
         + points(1, entry.pdc)
 }
 
-// So many points for a flag that is set.
+/// So many points for a flag that is set.
 fn points(worth: u8, flag: bool) -> u8
     ensures { result ≡ points worth flag }
 {
     if flag { worth } else { 0 }
 }
 
-// Whether an entry matches a query of the role. Each kind that is asked for has a query in the site and one out
-// of it.
+/// Whether an entry matches a query of the role. Each kind that is asked for has a query in the site and one out
+/// of it.
 pub(crate) fn is_asked_for(entry: &Entry, role: Role) -> bool
     ensures { IsTrue result ↔ IsSome (first_query role entry.now) }
 {

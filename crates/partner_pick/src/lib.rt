@@ -10,7 +10,8 @@
 //! lines or its first bad one, of which a text has one at most ([`laws_of_directories`]), on [`rank`] giving the one
 //! list that `specs/Ranking.antt` calls ranked, and on [`best`] giving its first element without memory. Want of
 //! memory is the one answer that comes freely. The queries and the score are defined in `specs/Queries.antt`, the
-//! computer line in `specs/ComputerText.antt`, and what the reader of a text answers in `specs/Parsing.antt`.
+//! computer line in `specs/ComputerText.antt`, what the reader of a text answers in `specs/Parsing.antt`, and that no
+//! two entries have one name in `specs/Names.antt`. `specs/Progress.antt` belongs to the private part.
 #![tactic(auto)]
 
 mod directory;

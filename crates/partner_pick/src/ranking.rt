@@ -8,7 +8,7 @@ use crate::entry::is_asked_for;
 use crate::{Directory, Entry, NameText, NoMemory, Role, score};
 use std::alloc::{AllocError, Global};
 
-// How many scores there are: as many as sets of four flags.
+/// How many scores there are: as many as sets of four flags.
 const SCORES: u8 = 16;
 
 /// The places of the candidates in rank, each once: the higher score first, then the lower of the lowest queries
@@ -29,7 +29,7 @@ pub fn rank(
     places_in_rank(alloc, directory, role, own).map_err(|_| NoMemory)
 }
 
-// The places score by score, the highest score first.
+/// The places score by score, the highest score first.
 fn places_in_rank(
     alloc: Global,
     directory: &Directory,
@@ -47,7 +47,8 @@ fn places_in_rank(
     Ok(places)
 }
 
-// Equal scores have equal flags, and so match the same queries: among them the earlier line stands before.
+/// Adds the places of the candidates with this score, the earlier line first: equal scores have equal flags, and so match
+/// the same queries.
 fn add_scored(
     places: &mut Vec<usize>,
     directory: &Directory,
@@ -67,7 +68,7 @@ fn add_scored(
     Ok(())
 }
 
-// Whether a place has a candidate of this score.
+/// Whether a place has a candidate of this score.
 fn has_candidate(
     directory: &Directory,
     role: Role,
@@ -100,7 +101,7 @@ pub fn best(directory: &Directory, role: Role, own: &NameText) -> Option<usize>
     best
 }
 
-// The best of the places up to this one, by the best of those below it.
+/// The best of the places up to this one, by the best of those below it.
 fn better(
     directory: &Directory,
     role: Role,
@@ -126,7 +127,7 @@ fn better(
     }
 }
 
-// Whether a later entry leaves a place first: it does unless its score is higher.
+/// Whether a later entry leaves a place first: it does unless its score is higher.
 fn stays_first(directory: &Directory, first: usize, later: &Entry) -> bool
     requires { first < length directory.now }
     ensures { IsTrue result ↔ (score_of later.now ≤ score_at directory.now first) }
@@ -134,7 +135,7 @@ fn stays_first(directory: &Directory, first: usize, later: &Entry) -> bool
     score(directory.at(first)) >= score(later)
 }
 
-// Whether the entry may be asked by a computer of this role and name.
+/// Whether the entry may be asked by a computer of this role and name.
 fn is_candidate(entry: &Entry, role: Role, own: &NameText) -> bool
     ensures { IsTrue result ↔ IsCandidate role own.now entry.now }
 {

@@ -4,10 +4,10 @@ ghost use Rattle.phase_rule.specs.Rule.{IsPast, judged, next_poll, ticks_of_seco
 
 use crate::{Limits, NO_LIMIT};
 
-// One second, in ticks of 100 ns.
+/// One second, in ticks of 100 ns.
 const SECOND: u64 = 10_000_000;
 
-// The greatest amount of an offset, in ticks, at which the clock is steady: 100 ms.
+/// The greatest amount of an offset, in ticks, at which the clock is steady: 100 ms.
 const STEADY: u64 = 1_000_000;
 
 /// What is to be done with an offset.

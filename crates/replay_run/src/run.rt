@@ -61,7 +61,7 @@ pub fn replay<S: Source, O: Sink>(conf: Conf, source: &mut S, sink: &mut O) -> R
     step_through(conf, source, sink)
 }
 
-/// The same, by what is read and written alone.
+/// The work of [`replay`], by `Replays` alone: the other clauses of that call follow from it.
 fn step_through<S: Source, O: Sink>(conf: Conf, source: &mut S, sink: &mut O) -> ReplayEnd
     ensures { Replays conf
         (seen (S.left source.old) (S.faults source.old) (O.written sink.old) (O.faults sink.old))

@@ -14,9 +14,10 @@ pub(crate) const HEADER_LEN: usize = 16;
 /// Bytes in a PDU, at most.
 pub(crate) const PDU_LEN: usize = 5_840;
 
-/// The version and its minor number.
+/// The version.
 pub(crate) const VERSION: u8 = 5;
 
+/// The minor number of the version.
 pub(crate) const MINOR: u8 = 0;
 
 /// The high half of the first byte of a data representation whose numbers have their least significant byte first.

@@ -11,7 +11,7 @@
 //! `laws_of_pdus`: bytes are cut in one way, as PDUs or up to a first fault.
 //!
 //! The definitions: `specs/Header.antt` says what is wrong with a header, `specs/Bind.antt` what a bind offers,
-//! `specs/Pdu.antt` which PDU stands first in bytes, `specs/Stream.antt` into which PDUs bytes are cut, and
+//! `specs/Pdu.antt` which PDU stands first in bytes, `specs/Stream.antt` into which PDUs bytes are cut,
 //! `specs/Reader.antt` what a reader keeps and does, and `specs/Fill.antt` what is taken of a wire, and that no session
 //! is opened.
 #![tactic(auto)]

@@ -27,11 +27,14 @@ with_outcome outcome end = record end {
 abbrev pub counted : Event → Outcome → LifeEnd → LifeEnd
 counted event outcome end = with_outcome outcome (record end { turns = more end.turns (length (ticks_by event)) })
 
+-- one more quiet receipt
 abbrev pub with_quiet : LifeEnd → LifeEnd
 with_quiet end = record end { quiet = more end.quiet 1 }
 
+-- one more failed receive or send
 abbrev pub with_lost : LifeEnd → LifeEnd
 with_lost end = record end { lost = more end.lost 1 }
 
+-- the same numbers, and why the run ended
 abbrev pub with_why : Why → LifeEnd → LifeEnd
 with_why why end = record end { why = why }

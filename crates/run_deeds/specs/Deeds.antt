@@ -33,6 +33,7 @@ abbrev pub goes_on : History → Deed → History
 goes_on history (Take event) = event ∷ history
 goes_on history (Print line) = history
 
+-- the event that is taken, if there is one
 abbrev pub events_in : Deed → List Event
 events_in (Take event) = event ∷ []
 events_in (Print line) = []
@@ -57,6 +58,7 @@ abbrev pub line_in : Conf → History → Deed → List ℕ
 line_in conf history (Take event) = line_of (outcome_at conf history event)
 line_in conf history (Print line) = line
 
+-- why an outcome is a refusal, if it is one
 abbrev pub reasons_by : Outcome → List Reason
 reasons_by (Refused reason) = reason ∷ []
 reasons_by _ = []
@@ -66,6 +68,7 @@ abbrev pub reasons_in : Conf → History → Deed → List Reason
 reasons_in conf history (Take event) = reasons_by (outcome_at conf history event)
 reasons_in conf history (Print line) = []
 
+-- the event, if it is a Tick
 abbrev pub ticks_by : Event → List Event
 ticks_by (Tick now word) = Tick now word ∷ []
 ticks_by _ = []
@@ -77,6 +80,7 @@ ticks_in (Print line) = []
 
 -- ---- What deeds do, one after the other
 
+-- what each of the deeds gives after the history before it, joined
 abbrev pub along : {A : Type 0} → (History → Deed → List A) → History → List Deed → List A
 along f history [] = []
 along f history (deed ∷ deeds) = f history deed ++ along f (goes_on history deed) deeds
@@ -100,6 +104,7 @@ cut_record Whole = []
 cut_record (NoRecord event front) = take front (event_bytes event)
 cut_record (NoLine deed front) = []
 
+-- nothing of the last deed is missing
 abbrev pub IsWhole : Ending → Type 0
 IsWhole Whole = ⊤
 IsWhole (NoRecord event front) = ⊥

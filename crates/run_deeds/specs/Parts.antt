@@ -21,6 +21,7 @@ use Rattle.run_deeds.specs.Marks.{Reserved}
 use Rattle.run_deeds.specs.Deeds.{Deed, Take, Ending, along, history_after, posted_in, moves_in, reasons_in, ticks_in, all_done, events_given}
 use Rattle.run_deeds.specs.Devices.{Seen, Given, Does, LifeEndsBy}
 
+-- nothing came
 abbrev pub is_quiet : Receipt → Bool
 is_quiet (Got from bytes) = false
 is_quiet Quiet = true

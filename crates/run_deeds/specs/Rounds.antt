@@ -21,6 +21,7 @@ use Rattle.run_deeds.specs.Parts.{Part, why_of}
 abbrev pub is_moved : Outcome → Bool
 is_moved outcome = is_some (offset_moved outcome)
 
+-- the offset is past its limit
 abbrev pub is_big : Reason → Bool
 is_big TooBig = true
 is_big _ = false

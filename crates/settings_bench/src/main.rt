@@ -12,6 +12,7 @@ use w32t_settings::{Settings, read_settings};
 /// Bytes of a text that are handed over, at most: one more than the longest text has.
 const MOST: usize = 16_777_217;
 
+/// Reads the settings, and prints how many accounts and computers they have.
 fn main(rt: HostRuntime) -> anyhow::Result<()> {
     let settings = settings(&rt)?;
     // Each account is a line.

@@ -49,7 +49,7 @@ impl FileDisk {
         }
     }
 
-    // Counts a call by what came of it.
+    /// Counts a call by what came of it.
     fn answer(&mut self, outcome: io::Result<()>) -> Put
         ensures done { (result ≡ Put.Done) ↔ IsOk outcome }
         ensures calls { Ticks (calls_of self.old) (calls_of self.new) }
@@ -67,6 +67,7 @@ impl FileDisk {
     }
 }
 
+/// The error of each call without a file.
 fn no_file() -> io::Error {
     io::Error::from(io::ErrorKind::NotFound)
 }

@@ -29,7 +29,7 @@ impl FuseDisk {
         &self.disk
     }
 
-    // Uses up one call, and says whether the fuse had blown.
+    /// Uses up one call, and says whether the fuse had blown.
     fn burn(&mut self) -> bool
         ensures stopped { result ≡ (left_of self.old == 0) }
         ensures left { left_of self.new ≡ left_of self.old - 1 }

@@ -80,7 +80,7 @@ impl MemoryDisk {
         image_of(&self.state, n)
     }
 
-    // Whether the call of this number fails, within the room.
+    /// Whether the call of this number fails, within the room.
     fn fails_at(&self, stopped: bool, number: u64) -> bool
         ensures { MatchBool
             result
@@ -90,7 +90,7 @@ impl MemoryDisk {
         stopped || self.fails.contains(&number)
     }
 
-    // Counts a call, and keeps what the disk is before it.
+    /// Counts a call, and keeps what the disk is before it.
     fn begin(&mut self, stopped: bool) -> Turn
         ensures state { self.new.state ≡ self.old.state }
         ensures moment { KeepsMoment result self.old self.new }
@@ -112,7 +112,7 @@ impl MemoryDisk {
         }
     }
 
-    // A read, which fails where it is stopped.
+    /// A read, which fails where it is stopped.
     pub(crate) fn read_unless(&mut self, stopped: bool, buf: &mut [u8; 256]) -> Put
         ensures reads { Reads result buf.new (memory_tells self.old) (memory_tells self.new) }
         ensures elapses { Elapses (memory_tells self.old) (memory_tells self.new) }
@@ -130,7 +130,7 @@ impl MemoryDisk {
         }
     }
 
-    // A write, which fails where it is stopped.
+    /// A write, which fails where it is stopped.
     pub(crate) fn write_unless(&mut self, stopped: bool, at: usize, piece: &[u8]) -> Put
         requires { at + length piece.now ≤ 256 }
         ensures writes { Writes result at piece.now (memory_tells self.old) (memory_tells self.new) }
@@ -158,7 +158,7 @@ impl MemoryDisk {
         }
     }
 
-    // A sync, which fails where it is stopped.
+    /// A sync, which fails where it is stopped.
     pub(crate) fn sync_unless(&mut self, stopped: bool) -> Put
         ensures syncs { Syncs result (memory_tells self.old) (memory_tells self.new) }
         ensures elapses { Elapses (memory_tells self.old) (memory_tells self.new) }

@@ -33,6 +33,7 @@ names_another rid Plain = true
 names_another rid (Short68 key_id sum) = not (key_id % 2 ^ 31 == rid)
 names_another rid (Ext120 other reserved flags hints hash sum) = not (other == rid) || not (hash == 1)
 
+-- both checksums are there, and they are the same
 abbrev pub is_same_sum : Option (List ℕ) → Option (List ℕ) → Bool
 is_same_sum (Some a) (Some b) = bytes_eq a b
 is_same_sum (Some a) None = false
@@ -54,6 +55,7 @@ verdict_on_packet conf now p (Some r) =
     else if not (carries_either conf.account p) then Refused BadDigest
     else verdict_by_times conf.limits now r (ticks_of p.header.receive now) (ticks_of p.header.transmit now)
 
+-- what a message leads to
 abbrev pub packet_verdict : Conf → Words → ℤ → Addr → Packet → Outcome
 packet_verdict conf w now from p =
     if not (is_tail_of conf.kind p.tail) then Refused BadLength

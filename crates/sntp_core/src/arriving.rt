@@ -45,7 +45,8 @@ impl Member {
         outcome
     }
 
-    /// Closes all requests after an accepted reply.
+    /// Keeps what follows from an accepted reply: no request is open any more, the poll exponent moves, the polling
+    /// interval begins at the corrected reading, and this partner is the source.
     #[tactic(auto, using(crate::proofs::Places::place_small))]
     fn accept(&mut self, now: i64, offset: i64, how: How)
         requires now { IsReading now }
@@ -185,6 +186,7 @@ fn is_answered(request: &Request, now: i64, stamp: Stamp) -> bool
         && now - WINDOW <= request.at
 }
 
+/// Whether address and port are the same.
 fn is_same_addr(a: Addr, b: Addr) -> bool
     ensures { result ≡ is_same_addr a b }
 {
@@ -202,6 +204,7 @@ fn is_tail_of(kind: Kind, tail: &Tail) -> bool
     }
 }
 
+/// Whether the message is not a server's.
 fn has_bad_mode(header: &Header) -> bool
     ensures { result ≡ is_bad_mode header.now.mode }
 {
@@ -237,6 +240,7 @@ fn carries_either(account: &Account, packet: &Packet) -> bool
     carries(packet, &account.current) || carries_previous(packet, &account.previous)
 }
 
+/// Whether the message carries its checksum under the previous key, if there is one.
 fn carries_previous(packet: &Packet, previous: &Option<[u8; 16]>) -> bool
     ensures { result ≡ option_map_or (λ key. carries key packet.now) previous.now false }
 {

@@ -5,13 +5,16 @@
 //! takes it, and `source` names the partner whose reply was last accepted. [`line_of`] writes the line of an outcome,
 //! and [`total_line`] the one with which a report closes.
 //!
-//! It stands on `time_machine`, which says what a history leads to, on `ms_auth` for messages and checksums, and on
-//! `phase_rule` for the judgement of an offset. The layer above may rely on this: where a member stands for a history
+//! It stands on `time_machine`, which says what a history leads to, on `capture_fmt` for events, on `ms_auth` for messages
+//! and checksums, on `phase_rule` for the judgement of an offset, and on `line_text` for lines; the requests that are open
+//! are in an `arrayvec`. The layer above may rely on this: where a member stands for a history
 //! (`StandsForHistory` in `specs/Standing.antt`; a new one stands for the empty history), `admits` is true exactly
 //! where the history followed by the event grows, `step` answers what the event leads to in that history, and the
 //! member then stands for the longer one. A refused arrival leaves the member as it was, whatever happened before.
 //!
-//! `specs/Packets.antt` and `specs/Ranges.antt` belong to the private part.
+//! The files: `member.rt` (what is kept, and which part takes an event), `sending.rt` (a Life, a Tick, a Resync),
+//! `arriving.rt` (an Arrive) with `times.rt` (the four times), and `report.rt` (the lines). `specs/Packets.antt` and
+//! `specs/Ranges.antt` belong to the private part.
 #![tactic(auto)]
 
 mod arriving;

@@ -80,7 +80,7 @@ impl Member {
         self.may_follow(event)
     }
 
-    /// The same, by what is kept alone.
+    /// [`Member::admits`] by the fields alone, whatever history they stand for.
     fn may_follow(&self, event: &Event) -> bool
         ensures { IsTrue result ↔ MayFollow (conf_of self.now) (words_of self.now) event.now }
     {
@@ -124,7 +124,7 @@ impl Member {
         self.advance(event)
     }
 
-    /// The same, by what is kept alone.
+    /// [`Member::step`] by the fields alone, whatever history they stand for.
     fn advance(&mut self, event: &Event) -> Outcome
         requires admitted { MayFollow (conf_of self.old) (words_of self.old) event.now }
         requires read { IsRead event.now }

@@ -76,6 +76,7 @@ fn add_addr(line: &mut Line<96>, addr: Addr)
     line.add_number(addr.port);
 }
 
+/// The way of a correction as it is printed.
 fn how_text(how: How) -> &'static str
     ensures { result.now ≡ how_text how }
 {
@@ -85,6 +86,7 @@ fn how_text(how: How) -> &'static str
     }
 }
 
+/// The reason as it is printed.
 fn reason_text(reason: Reason) -> &'static str
     ensures text { result.now ≡ reason_text reason }
     ensures short { length result.now ≤ 10 }

@@ -161,7 +161,7 @@ impl Keeper {
         Ok(mark)
     }
 
-    // The keeper of an image, whose target may still be open.
+    /// The keeper of an image, whose target may still be open.
     fn of_image(image: &[u8; 256]) -> Result<Keeper, KeepFault>
         ensures remembers { IfOk result (λ k. Remembers k image.now) }
         ensures target { IfOk result (λ k. IsTarget image.now k.target) }
@@ -177,7 +177,7 @@ impl Keeper {
         Ok(keeper)
     }
 
-    // Closes the target, where it is open. The image is the one that was read.
+    /// Closes the target, where it is open. The image is the one that was read.
     fn shut_target<D: Disk>(&self, disk: &mut D, image: &[u8; 256]) -> Result<(), KeepFault>
         requires remembers { Remembers self.now image.now }
         requires ours { IsOurs self.now image.now }
@@ -198,7 +198,7 @@ impl Keeper {
         }
     }
 
-    // Writes a greater mark, and remembers the slot that holds it as the newest.
+    /// Writes a greater mark, and remembers the slot that holds it as the newest.
     fn write_mark<D: Disk>(&mut self, disk: &mut D, mark: u32) -> Result<(), KeepFault>
         requires fits { Fits (D.told disk.old) self.old }
         requires grows { kept_mark self.old < mark }
@@ -224,7 +224,7 @@ impl Keeper {
         Ok(())
     }
 
-    // Puts the version and the mark behind the gate of the target, which stays closed.
+    /// Puts the version and the mark behind the gate of the target, which stays closed.
     #[tactic(auto, using(crate::proofs::Staging::stage_holds, crate::proofs::Staging::stage_moments))]
     fn stage<D: Disk>(&self, disk: &mut D, mark: u32) -> Result<(), KeepFault>
         requires { Fits (D.told disk.old) self.now }
@@ -240,7 +240,7 @@ impl Keeper {
         write_and_sync(disk, self.target.at() + 1, &body_of(mark))
     }
 
-    // Opens the target, which holds the mark, and closes the third slot, where it is open.
+    /// Opens the target, which holds the mark, and closes the third slot, where it is open.
     fn switch<D: Disk>(&self, disk: &mut D, mark: u32) -> Result<(), KeepFault>
         requires staged { AllStaged (D.told disk.old) self.now mark }
         requires grows { kept_mark self.now < mark }
@@ -257,7 +257,7 @@ impl Keeper {
         turn_gates(disk, self.target.at(), self.to_close())
     }
 
-    // The gate to be closed in a reserve.
+    /// The gate to be closed in a reserve.
     #[tactic(auto, unfolding(crate::specs::Steps::closing))]
     fn to_close(&self) -> Option<usize>
         ensures to_close { result ≡ closing self.now }
@@ -270,7 +270,7 @@ impl Keeper {
         }
     }
 
-    // The keeper after this mark was written.
+    /// The keeper after this mark was written.
     fn next(&self, mark: u32) -> Keeper
         ensures { result ≡ next self.now mark }
     {

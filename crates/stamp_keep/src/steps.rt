@@ -9,6 +9,22 @@ use crate::keeper::KeepFault;
 use crate::slot::{CLOSED, OPEN};
 use slot_disk::{Disk, Put};
 
+/// Syncs the disk, and reads it.
+#[tactic(auto, using(crate::proofs::Moments::one_call, crate::proofs::Moments::sync_then_read))]
+pub fn read_synced<D: Disk>(disk: &mut D) -> Result<[u8; 256], KeepFault>
+    ensures moments { LeavesOnly (D.told disk.old) (D.told disk.new) (D.told disk.old).may_leave }
+    ensures begins { LeavesFromFirst (D.told disk.old) (D.told disk.new) (IsContent (D.told disk.old)) }
+    ensures read { IfOk result (λ image. HasRead image (D.told disk.old) (D.told disk.new)) }
+    ensures calls { (D.told disk.new).time ≤ (D.told disk.old).time + 2 }
+    ensures only_fault { OnErr result (result ≡ Err KeepFault.DiskFault) }
+    ensures cause { KeepCounts result (D.faults disk.old) (D.faults disk.new) }
+{
+    done(disk.sync())?;
+    let mut image = [0; 256];
+    done(disk.read(&mut image))?;
+    Ok(image)
+}
+
 /// Writes a piece and syncs.
 pub fn write_and_sync<D: Disk>(disk: &mut D, at: usize, piece: &[u8]) -> Result<(), KeepFault>
     requires { at + length piece.now ≤ 256 }
@@ -57,20 +73,4 @@ pub fn done(put: Put) -> Result<(), KeepFault>
         Put::Done => Ok(()),
         Put::Failed => Err(KeepFault::DiskFault),
     }
-}
-
-/// Syncs the disk, and reads it.
-#[tactic(auto, using(crate::proofs::Moments::one_call, crate::proofs::Moments::sync_then_read))]
-pub fn read_synced<D: Disk>(disk: &mut D) -> Result<[u8; 256], KeepFault>
-    ensures moments { LeavesOnly (D.told disk.old) (D.told disk.new) (D.told disk.old).may_leave }
-    ensures begins { LeavesFromFirst (D.told disk.old) (D.told disk.new) (IsContent (D.told disk.old)) }
-    ensures read { IfOk result (λ image. HasRead image (D.told disk.old) (D.told disk.new)) }
-    ensures calls { (D.told disk.new).time ≤ (D.told disk.old).time + 2 }
-    ensures only_fault { OnErr result (result ≡ Err KeepFault.DiskFault) }
-    ensures cause { KeepCounts result (D.faults disk.old) (D.faults disk.new) }
-{
-    done(disk.sync())?;
-    let mut image = [0; 256];
-    done(disk.read(&mut image))?;
-    Ok(image)
 }

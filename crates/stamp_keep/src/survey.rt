@@ -16,6 +16,7 @@ pub struct Held {
 }
 
 impl Held {
+    /// What the image holds in this slot.
     #[tactic(auto, unfolding(crate::specs::Image::mark_at))]
     fn read(image: &[u8; 256], slot: Slot) -> Held
         ensures shows { Shows image.now result }

@@ -4,7 +4,8 @@
 //! reads is spelled so, and whatever is spelled so is read. The lines of a text are `lines` of std; a number
 //! has one spelling, `decimal` of std; a key is what `decode_of` of the crate `hex` makes of its digits, which
 //! may be in either case. Names are in `specs/Name.antt`, addresses and ports in `specs/Address.antt`; a text spells
-//! one name, one address and one port at most.
+//! one name, one address and one port at most. `specs/Bytes.antt` and `specs/Decimal.antt` have words for what doesn't
+//! stand in a text, and for how a number begins.
 //!
 //! Texts of lines have one form of definition, in `specs/Lines.antt`: a `TextForm` says which lines are looked
 //! at, what each of these may say, and which two sayings don't stand in one text. The lines of a text `Say`

@@ -69,6 +69,7 @@ after_arrival conf w now Idle = w
 after_arrival conf w now (Sent to count bytes) = w
 after_arrival conf w now (Refused reason) = w
 
+-- the words after an event
 abbrev pub after : Conf → Words → Event → Words
 after conf w (Life now mark) = after_life conf w mark
 after conf w (Tick now word) =

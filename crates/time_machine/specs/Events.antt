@@ -19,6 +19,7 @@ reading_of (Arrive now from bytes) = now
 abbrev pub IsRead : Event → Type 0
 IsRead e = IsReading (reading_of e)
 
+-- a Life: a run began
 abbrev pub is_life : Event → Bool
 is_life (Life now mark) = true
 is_life (Tick now word) = false

@@ -28,6 +28,7 @@ CountsRise (t ∷ before) =
     IfSome (request_of t) (λ r. AllByRecursion (λ earlier. earlier.count < r.count) (all_sent before))
     × CountsRise before
 
+-- the counts of a history that grows rise
 abbrev pub LawOfCounts : Type 0
 LawOfCounts = (conf : Conf) (history : History) → Grows conf history → CountsRise (told conf history)
 
@@ -83,6 +84,7 @@ abbrev pub MovesOnce : List Told → Type 0
 MovesOnce [] = Unit {0}
 MovesOnce (t ∷ before) = IfSome (count_moved t.outcome) (λ count. IsFirstMove count before) × MovesOnce before
 
+-- no two accepted arrivals of a history that grows answer the same request
 abbrev pub LawOfMoves : Type 0
 LawOfMoves = (conf : Conf) (history : History) → Grows conf history → MovesOnce (told conf history)
 

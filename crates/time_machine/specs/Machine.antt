@@ -27,6 +27,7 @@ is_due w now =
     w.sent == 0
     || option_map_or (λ b. int_lt now b || int_le (b +ℤ pos (2 ^ w.poll * 10000000)) now) w.base false
 
+-- an event sends a request: a Tick that is due, and each Resync
 abbrev pub sends : Words → Event → Bool
 sends w (Life now mark) = false
 sends w (Tick now word) = is_due w now
@@ -60,22 +61,26 @@ stamp_at w word = record { seconds = count_at w; fraction = word }
 abbrev pub poll_field : Conf → Words → Bool → ℕ
 poll_field conf w turns = if turns then conf.limits.min_poll else w.poll
 
+-- the request that an event sends, by whether it is a Life or a rediscovery, and whether it is a change
 abbrev pub request_as : Conf → Words → (resets changes : Bool) → ℕ → Outcome
 request_as conf w resets changes word =
     Sent (address_at conf (partner_as conf w resets changes)) (count_at w)
     (request_bytes conf.kind conf.account.rid (poll_field conf w (resets || changes)) (stamp_at w word))
 
+-- the request that an event sends, with this random word
 abbrev pub request_at : Conf → Words → Event → ℕ → Outcome
 request_at conf w e word = request_as conf w (is_reset e) (is_change w e) word
 
 -- ---- What an event leads to
 
+-- what an event leads to, by the words at the end of the history before it
 abbrev pub outcome_by : Conf → Words → Event → Outcome
 outcome_by conf w (Life now mark) = Started mark
 outcome_by conf w (Tick now word) = if is_due w now then request_at conf w (Tick now word) word else Idle
 outcome_by conf w (Resync now word flags) = request_at conf w (Resync now word flags) word
 outcome_by conf w (Arrive now from bytes) = verdict_at conf w now from bytes
 
+-- the event with what came of it
 abbrev pub told_by : Conf → Words → Event → Told
 told_by conf w e =
     record { event = e; changes = is_change w e; partner = partner_at conf w e; outcome = outcome_by conf w e }
@@ -101,6 +106,7 @@ pub record Posted : Type 0 where
   pub to : Addr
   pub bytes : List ℕ
 
+-- the request that is sent, if there is one
 abbrev pub posted_by : Outcome → List Posted
 posted_by (Sent to count bytes) = record { to = to; bytes = bytes } ∷ []
 posted_by (Started mark) = []
@@ -108,10 +114,12 @@ posted_by Idle = []
 posted_by (Moved count offset how) = []
 posted_by (Refused reason) = []
 
+-- the correction, in the words of a clock
 abbrev pub move_by : How → ℤ → Move
 move_by Slew offset = clock.Slew offset
 move_by Step offset = clock.Step offset
 
+-- the correction of the clock that is made, if there is one
 abbrev pub moves_by : Outcome → List Move
 moves_by (Moved count offset how) = move_by how offset ∷ []
 moves_by (Started mark) = []

@@ -19,10 +19,12 @@ addr_text a =
     decimal (a.ip / 2 ^ 24) ++ codes "." ++ decimal (a.ip / 2 ^ 16 % 256) ++ codes "."
     ++ decimal (a.ip / 2 ^ 8 % 256) ++ codes "." ++ decimal (a.ip % 256) ++ codes ":" ++ decimal a.port
 
+-- the way of a correction, as a line has it
 abbrev pub how_text : How → List ℕ
 how_text Slew = codes "slew"
 how_text Step = codes "step"
 
+-- the reason of a refusal, as a line has it
 abbrev pub reason_text : Reason → List ℕ
 reason_text BadLength = codes "BadLength"
 reason_text BadSource = codes "BadSource"

@@ -23,9 +23,11 @@ request_sent e Idle = None
 request_sent e (Moved count offset how) = None
 request_sent e (Refused reason) = None
 
+-- the request that an event has sent, if it has
 abbrev pub request_of : Told → Option Request
 request_of t = request_sent t.event t.outcome
 
+-- the event has sent a request
 abbrev pub has_sent : Told → Bool
 has_sent t = is_some (request_of t)
 
@@ -53,6 +55,7 @@ count_moved Idle = None
 count_moved (Sent to count bytes) = None
 count_moved (Refused reason) = None
 
+-- the event is an accepted arrival
 abbrev pub is_accepted : Told → Bool
 is_accepted t = is_some (offset_moved t.outcome)
 

@@ -62,9 +62,11 @@ address_at conf place = unwrap_or (slice_get conf.partners place) (record { ip =
 abbrev pub present_partner : Conf → Words → ℕ
 present_partner conf w = w.changes % length conf.partners
 
+-- address and port are the same
 abbrev pub is_same_addr : Addr → Addr → Bool
 is_same_addr a b = a.ip == b.ip && a.port == b.port
 
+-- the sender isn't the present partner
 abbrev pub is_bad_source : Conf → Words → Addr → Bool
 is_bad_source conf w from = not (is_same_addr from (address_at conf (present_partner conf w)))
 

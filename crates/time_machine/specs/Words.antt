@@ -17,6 +17,7 @@ life_at before = after_last (λ t. is_life t.event) before
 abbrev pub since : List Told → List Told
 since before = from_last is_turning_point before
 
+-- what is there, as a list
 abbrev pub some_of : {A : Type 0} → Option A → List A
 some_of (Some x) = x ∷ []
 some_of None = []
@@ -52,6 +53,7 @@ poll_at limits (t ∷ before) =
     if is_turning_point t then poll_set limits (offset_moved t.outcome) (poll_at limits before)
     else poll_at limits before
 
+-- what stands at the end of a history: all of it that decides on the next event
 pub record Words : Type 0 where
   -- the mark of the last Life
   pub mark : Option ℕ
@@ -70,6 +72,7 @@ pub record Words : Type 0 where
   -- the place in rank of the partner at the last accepted arrival of this life
   pub source : Option ℕ
 
+-- the words at the end of what came so far
 unfoldable pub words : Conf → List Told → Words
 words conf before =
     record {

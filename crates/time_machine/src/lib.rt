@@ -6,16 +6,16 @@
 //! reason that applies. There is no member here and no code but types: settings ([`Conf`], [`Partners`]), outcomes,
 //! and the laws.
 //!
-//! It stands on the crates of messages, accounts, limits and captures for their words. The layer above may rely on
-//! [`laws_of_histories`]: counts rise, no two replies are accepted for one request, at most eight requests are open,
-//! and one history may come after another. A reader who doubts a definition reads [`laws_of_positions`] beside it,
-//! which says the same of places in a history.
+//! It stands on `ms_auth` and `ntp_wire` for messages, on `key_book` for accounts, on `phase_rule` for limits and on
+//! `capture_fmt` for events. The layer above may rely on [`laws_of_histories`]: counts rise, no two replies are accepted
+//! for one request, at most eight requests are open, and one history may come after another. A reader who doubts a
+//! definition reads [`laws_of_positions`] beside it, which says the same of places in a history.
 //!
 //! The definitions, in the order to read them: `specs/Events.antt` (what happens), `Told.antt` (what came of it),
 //! `Words.antt` (what stands at the end of a history), `Verdict.antt` (the reasons), `Machine.antt` (what an event
 //! leads to, and what a history sends and moves), `Report.antt` (its lines), `Growing.antt` (which events may follow
-//! one another), `Laws.antt` and `Positions.antt`. `Entries.antt` has words on lists, and `After.antt` what one event
-//! changes.
+//! one another), `Laws.antt` and `Positions.antt`. `Entries.antt` has words on lists, `Kept.antt` what a member keeps of
+//! the words, and `After.antt` what one event changes.
 #![tactic(auto)]
 
 mod conf;

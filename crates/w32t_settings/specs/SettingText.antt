@@ -41,11 +41,13 @@ label (Rid rid) = codes "Rid"
 label (Auth kind) = codes "Auth"
 label (NumberIs number value) = number_label number
 
+-- the values of Role
 abbrev pub role_text : Role → List ℕ
 role_text Member = codes "Member"
 role_text Controller = codes "Controller"
 role_text Pdc = codes "Pdc"
 
+-- the values of Auth
 abbrev pub kind_text : Kind → List ℕ
 kind_text Short = codes "Short"
 kind_text Extended = codes "Extended"

@@ -165,6 +165,7 @@ Fits (Rid rid) = rid < 2 ^ 32
 Fits (Auth kind) = ⊤
 Fits (NumberIs number value) = value ≤ greatest number
 
+-- each number of these settings is at most its greatest
 abbrev pub AllFit : List Setting → Type 0
 AllFit [] = ⊤
 AllFit (s ∷ ss) = Fits s × AllFit ss

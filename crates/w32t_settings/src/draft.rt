@@ -53,6 +53,7 @@ impl Draft {
         }
     }
 
+    /// Keeps the account of an account line.
     fn take_account(&mut self, number: u32, line: &[u8]) -> Result<(), SettingsFault>
         requires seen { is_skipped line.now ≡ false }
         requires begins { starts_with nat_eq line.now (codes "account ") ≡ true }
@@ -71,6 +72,7 @@ impl Draft {
         }
     }
 
+    /// Keeps the entry of a computer line.
     fn take_computer(&mut self, number: u32, line: &[u8]) -> Result<(), SettingsFault>
         requires seen { is_skipped line.now ≡ false }
         requires begins { starts_with nat_eq line.now (codes "computer ") ≡ true }
@@ -87,6 +89,7 @@ impl Draft {
         }
     }
 
+    /// Keeps what a line of the form `SETTING=VALUE` says.
     fn take_setting(&mut self, number: u32, line: &[u8]) -> Result<(), SettingsFault>
         requires seen { is_skipped line.now ≡ false }
         requires no_account { starts_with nat_eq line.now (codes "account ") ≡ false }

@@ -10,7 +10,7 @@
 //! `phase_rule` (limits) and `thiserror`. The layer above may rely on `answer` and `exact` of [`read_settings`], on the
 //! invariants of [`Settings`], and on [`laws_of_settings`]: a text has one answer at most. The definitions: the forms of
 //! a line in `specs/SettingText.antt`, what the lines set and the defaults in `specs/Values.antt`, and the least bad
-//! line in `specs/Answer.antt`.
+//! line in `specs/Answer.antt`. `specs/Progress.antt` belongs to the private part.
 #![tactic(auto)]
 
 mod draft;

@@ -10,24 +10,31 @@ use ms_auth::Kind;
 use partner_pick::{NameText, Role};
 use text_grammar::{cut, read_decimal};
 
-// What stands before the `=` of the settings that are no numbers, or have no default.
+/// What stands before the `=` of the computer's own name.
 const NAME: &[u8] = b"Name";
 
+/// What stands before the `=` of its role.
 const ROLE: &[u8] = b"Role";
 
+/// What stands before the `=` of its account's RID.
 const RID: &[u8] = b"Rid";
 
+/// What stands before the `=` of the kind of its messages.
 const AUTH: &[u8] = b"Auth";
 
-// The values of Role, and those of Auth.
+/// The value of Role of a member.
 const MEMBER: &[u8] = b"Member";
 
+/// The value of Role of a controller that is not the PDC emulator.
 const CONTROLLER: &[u8] = b"Controller";
 
+/// The value of Role of the PDC emulator.
 const PDC: &[u8] = b"Pdc";
 
+/// The value of Auth for messages of 68 bytes.
 const SHORT: &[u8] = b"Short";
 
+/// The value of Auth for messages of 120 bytes.
 const EXTENDED: &[u8] = b"Extended";
 
 /// The settings that are numbers and have a default.

@@ -29,6 +29,7 @@ use std::{env, io};
 use w32tm_cmd::{Status, status_line, w32tm};
 use w32tm_text::read_words;
 
+/// Carries out the words, prints the line of what went wrong, and ends with its code.
 fn main(rt: HostRuntime) -> ExitCode {
     let status = match words(&rt) {
         Ok(words) => run(&rt, &words).unwrap_or(Status::NoMemory),

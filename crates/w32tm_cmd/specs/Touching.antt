@@ -14,8 +14,7 @@ DcTouches old new WriteFault =
 DcTouches old new ClockFault = new ≡ record old { config = new.config; link = new.link; clock = new.clock }
 DcTouches old new _ = new ≡ record old { config = new.config }
 
--- `/monitor` touches the settings, the link, the clock, the random words and the output, and nothing but the settings
--- where there are none
+-- settings, link, clock, random words and output may have changed, and nothing else
 abbrev pub TouchesAsked : {S O L C D E : Type 0} → Outside S O L C D E → Outside S O L C D E → Type 0
 TouchesAsked old new = new ≡ record old {
   config = new.config;
@@ -25,6 +24,8 @@ TouchesAsked old new = new ≡ record old {
   entropy = new.entropy;
 }
 
+-- `/monitor` touches the settings, the link, the clock, the random words and the output, and nothing but the settings
+-- where there are none
 abbrev pub MonitorTouches : {S O L C D E : Type 0} → Outside S O L C D E → Outside S O L C D E → Status → Type 0
 MonitorTouches old new Done = TouchesAsked old new
 MonitorTouches old new WriteFault = TouchesAsked old new
@@ -42,10 +43,11 @@ ReplayTouches old new ReadFault = new ≡ record old { config = new.config; capt
 ReplayTouches old new WriteFault = new ≡ record old { config = new.config; capture_in = new.capture_in; out = new.out }
 ReplayTouches old new _ = new ≡ record old { config = new.config }
 
--- `/member` touches all but the input, and nothing but the settings where there are none or no partner is among them
+-- all but the input may have changed
 abbrev pub TouchesLived : {S O L C D E : Type 0} → Outside S O L C D E → Outside S O L C D E → Type 0
 TouchesLived old new = new ≡ record new { capture_in = old.capture_in }
 
+-- `/member` touches all but the input, and nothing but the settings where there are none or no partner is among them
 abbrev pub MemberTouches : {S O L C D E : Type 0} → Outside S O L C D E → Outside S O L C D E → Status → Type 0
 MemberTouches old new Done = TouchesLived old new
 MemberTouches old new WriteFault = TouchesLived old new

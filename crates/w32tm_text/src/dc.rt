@@ -17,6 +17,7 @@ pub fn dc_lines(end: &ServeEnd) -> [LongLine; 3]
     [replies_line(end), refused_line(end), link_line(end)]
 }
 
+/// How many replies were given.
 #[tactic(auto, unfolding(crate::specs::Dc::replies_line))]
 fn replies_line(end: &ServeEnd) -> LongLine
     ensures { result ≡ replies_line end.now }
@@ -28,6 +29,7 @@ fn replies_line(end: &ServeEnd) -> LongLine
     line
 }
 
+/// How many requests were refused, by the reason.
 #[tactic(auto, unfolding(crate::specs::Dc::refused_line))]
 fn refused_line(end: &ServeEnd) -> LongLine
     ensures { result ≡ refused_line end.now }
@@ -49,6 +51,7 @@ fn refused_line(end: &ServeEnd) -> LongLine
     line
 }
 
+/// What the link did.
 #[tactic(auto, unfolding(crate::specs::Dc::link_line))]
 fn link_line(end: &ServeEnd) -> LongLine
     ensures { result ≡ link_line end.now }

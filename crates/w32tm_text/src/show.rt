@@ -27,6 +27,7 @@ pub fn show_lines(packet: &Packet) -> [LongLine; 5]
     ]
 }
 
+/// What the first four bytes hold.
 #[tactic(auto, unfolding(crate::specs::Show::clock_line))]
 fn clock_line(header: &Header) -> LongLine
     ensures { result ≡ clock_line header.now }
@@ -42,6 +43,7 @@ fn clock_line(header: &Header) -> LongLine
     line
 }
 
+/// How far the sender is from a reference clock, and which one.
 #[tactic(auto, unfolding(crate::specs::Show::root_line))]
 fn root_line(header: &Header) -> LongLine
     ensures { result ≡ root_line header.now }
@@ -55,6 +57,7 @@ fn root_line(header: &Header) -> LongLine
     line
 }
 
+/// The reference and the originate timestamp.
 #[tactic(auto, unfolding(crate::specs::Show::reference_line))]
 fn reference_line(header: &Header) -> LongLine
     ensures { result ≡ reference_line header.now }
@@ -66,6 +69,7 @@ fn reference_line(header: &Header) -> LongLine
     line
 }
 
+/// The receive and the transmit timestamp.
 #[tactic(auto, unfolding(crate::specs::Show::receive_line))]
 fn receive_line(header: &Header) -> LongLine
     ensures { result ≡ receive_line header.now }
@@ -77,6 +81,7 @@ fn receive_line(header: &Header) -> LongLine
     line
 }
 
+/// The tail: of which kind it is, and its fields.
 #[tactic(auto, unfolding(crate::specs::Show::tail_line))]
 fn tail_line(tail: Tail) -> LongLine
     ensures { result ≡ tail_line tail }

@@ -11,9 +11,10 @@ use edge_traits::{DATAGRAM_LEN, Datagram};
 use key_book::Account;
 use text_grammar::{cut, read_decimal, read_key};
 
-// The commands of one word.
+/// The word of a monitor.
 const MONITOR: &[u8] = b"/monitor";
 
+/// The word of a replay.
 const REPLAY: &[u8] = b"/replay";
 
 /// The most turns of a run.
