@@ -119,6 +119,13 @@ says 4 "w32tm: read fault" "" /member:1 "/config:$folder/missing" "/keeper:$fold
 says 2 "w32tm: bad settings at line 2" "" /member:1 "/config:$folder/role" "/keeper:$folder/missing/keeper"
 says 11 "w32tm: no partner" "" /member:1 "$config" "/keeper:$folder/missing/keeper"
 for file in missing/keeper folder; do says 6 "w32tm: disk fault" "" $alone "/keeper:$folder/$file"; done
+# A file that can't be filled up to its 256 bytes, and one that can't be written.
+says 6 "w32tm: disk fault" "" $alone /keeper:/dev/full
+if [ "$(id -u)" != 0 ]; then
+    : >"$folder/kept"
+    chmod 400 "$folder/kept"
+    says 6 "w32tm: disk fault" "" $alone "/keeper:$folder/kept"
+fi
 printf '\245\011\0\0\0\0\0\100' >"$folder/version"
 printf '\245\001\0\0\377\377\377\300' >"$folder/spent"
 says 7 "w32tm: bad keeper" "" $alone "/keeper:$folder/version"
