@@ -36,7 +36,7 @@ first_or x xs r c = elim (Contains-append_cases (x ∷ []) xs r c) [
   | inr h ↦ inr h
 ]
 
-all_have : (P : Request → Type 0) (xs : List Request) (r : Request) → AllByRecursion P xs → Contains xs r → P r
+pub all_have : (P : Request → Type 0) (xs : List Request) (r : Request) → AllByRecursion P xs → Contains xs r → P r
 all_have P [] r h c = absurd (omega (arith, c.1))
 all_have P (x ∷ xs) r h c = elim (first_or x xs r c) [
   | inl e ↦ subst P e h.0
@@ -64,7 +64,7 @@ both_true : (a b : Bool) → (a && b) ≡ true → (a ≡ true) × (b ≡ true)
 both_true true b e = (refl, e)
 both_true false b e = cc
 
-counted : (now : ℤ) (stamp : Stamp) (r : Request) → is_answered now stamp r ≡ true → r.count ≡ stamp.seconds
+pub counted : (now : ℤ) (stamp : Stamp) (r : Request) → is_answered now stamp r ≡ true → r.count ≡ stamp.seconds
 counted now stamp r e = (Decides-eqb r.count stamp.seconds).0 (both_true _ _ (both_true _ _ (both_true _ _ e).0).0).0
 
 pub one_answered : LawOfAnswer

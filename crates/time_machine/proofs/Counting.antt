@@ -215,11 +215,11 @@ counts_rise conf (e ∷ history) g = (above conf history e g.0, counts_rise conf
 
 -- ---- Lives
 
-abbrev earlier_lives : List Told → List Told
+abbrev pub earlier_lives : List Told → List Told
 earlier_lives before = up_to_last (λ t. is_life t.event) before
 
 -- every count of an earlier life is at most the mark
-lives_low : (conf : Conf) (history : History) → Grows conf history →
+pub lives_low : (conf : Conf) (history : History) → Grows conf history →
     greatest_count (earlier_lives (told conf history)) ≤ unwrap_or (words conf (told conf history)).mark 0
 unfolding told Grows words
 lives_low conf [] g = omega arith

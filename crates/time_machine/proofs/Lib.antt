@@ -1,6 +1,7 @@
 pub mod After
 pub mod Answered
 pub mod Counting
+pub mod Earlier
 pub mod Gathers
 pub mod Joins
 pub mod Lists

@@ -23,7 +23,7 @@ from_one : (o : Option Request) (r : Request) → Contains (some_of o) r → o �
 from_one (Some q) r c = let k : c.0 ≡ 0 = omega (arith, c.1) in let same : q ≡ r = rw k at c.2 in cc
 from_one None r c = absurd (omega (arith, c.1))
 
-sent_within : (newer older : List Told) (t : Told) (r : Request) → request_of t ≡ Some r → Contains (all_sent (newer ++ t ∷ older)) r
+pub sent_within : (newer older : List Told) (t : Told) (r : Request) → request_of t ≡ Some r → Contains (all_sent (newer ++ t ∷ older)) r
 sent_within [] older t r e = Contains-append_right (all_sent older) (some_of (request_of t)) r (one_of (request_of t) r e)
 sent_within (x ∷ newer) older t r e = Contains-append_left (all_sent (newer ++ t ∷ older)) (some_of (request_of x)) r (sent_within newer older t r e)
 

@@ -12,8 +12,10 @@ use Rattle.phase_rule.specs.declared.rule.Judged.TheVariants.{TooBig}
 use Rattle.phase_rule.specs.Rule.{judged}
 use Rattle.time_machine.specs.declared.conf.Conf.{Conf}
 use Rattle.time_machine.specs.declared.outcome.Request.{Request}
+use Rattle.time_machine.specs.declared.outcome.Reason.TheVariants.{NoRequest}
+use Rattle.time_machine.specs.declared.outcome.Outcome.TheVariants.{Refused}
 use Rattle.time_machine.specs.Events.{History, is_life, mark_of}
-use Rattle.time_machine.specs.Told.{Told, request_of, request_sent, count_moved}
+use Rattle.time_machine.specs.Told.{Told, request_of, request_sent, count_moved, IsRefused}
 use Rattle.time_machine.specs.Words.{all_sent, greatest_count, Words, words, IsOpen}
 use Rattle.time_machine.specs.Verdict.{is_answered, is_bad_length, is_bad_source, is_bad_mode, is_bad_stratum, is_bad_key_id, is_bad_digest, has_bad_times, offset_of}
 use Rattle.time_machine.specs.Machine.{told, sends, outcome_by, outcome_at, outcomes, posted_by, moves_by, requests_of, moves_of, source_of}
@@ -93,6 +95,45 @@ abbrev pub LawOfLives : Type 0
 LawOfLives = (conf : Conf) (history : History) (e : Event) → Grows conf history →
     IfSome (count_moved (outcome_at conf history e))
     (λ count. AllByRecursion (λ r. r.count ≢ count) (all_sent (up_to_last (λ t. is_life t.event) (told conf history))))
+
+-- a request of an earlier life: an event before a Life has sent it
+pub record IsOfEarlierLife (before : List Told) (r : Request) : Type 0 where
+  pub newer : List Told
+  pub life : Told
+  pub between : List Told
+  pub event : Told
+  pub older : List Told
+  pub place : before ≡ newer ++ life ∷ between ++ event ∷ older
+  pub begins : is_life life.event ≡ true
+  pub sent : request_of event ≡ Some r
+
+-- an arrival whose request is looked up: none of the four reasons that come before NoRequest applies
+pub record IsLookedUp (conf : Conf) (w : Words) (from : Addr) (bytes : List ℕ) : Type 0 where
+  pub whole : is_bad_length conf.kind bytes ≡ false
+  pub source : is_bad_source conf w from ≡ false
+  pub mode : is_bad_mode (mode_of bytes) ≡ false
+  pub stratum : is_bad_stratum (leap_of bytes) (stratum_of bytes) ≡ false
+
+-- An arrival that answers none is refused, and moves and changes nothing. The reason is NoRequest if and only if none of
+-- the four before it applies.
+pub record AnswersNone (conf : Conf) (history : History) (now : ℤ) (from : Addr) (bytes : List ℕ) : Type 0 where
+  pub refused : IsRefused (outcome_at conf history (Arrive now from bytes))
+  pub moves : moves_of conf (Arrive now from bytes ∷ history) ≡ moves_of conf history
+  pub stays : words conf (told conf (Arrive now from bytes ∷ history)) ≡ words conf (told conf history)
+  pub reason :
+      (outcome_at conf history (Arrive now from bytes) ≡ Refused NoRequest) ↔ IsLookedUp conf (words conf (told conf history)) from bytes
+
+-- an arrival that brings back the count of a request of an earlier life, with whatever word, answers none
+abbrev pub LawOfEarlier : Type 0
+LawOfEarlier = (conf : Conf) (history : History) (now : ℤ) (from : Addr) (bytes : List ℕ) (r : Request) →
+    Grows conf history → IsOfEarlierLife (told conf history) r → (originate_of bytes).seconds ≡ r.count →
+    AnswersNone conf history now from bytes
+
+-- and so does one that brings back a count not above the mark of the life in which it comes, whoever has sent it
+abbrev pub LawOfBelow : Type 0
+LawOfBelow = (conf : Conf) (history : History) (now : ℤ) (from : Addr) (bytes : List ℕ) (mark : ℕ) →
+    (words conf (told conf history)).mark ≡ Some mark → (originate_of bytes).seconds ≤ mark →
+    AnswersNone conf history now from bytes
 
 -- at most eight requests are open
 abbrev pub LawOfRoom : Type 0

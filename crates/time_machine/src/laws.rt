@@ -1,5 +1,5 @@
 //! Laws of the time machine.
-ghost use Rattle.time_machine.specs.Laws.{LawOfAccepted, LawOfAnswer, LawOfCounts, LawOfJoins, LawOfLives, LawOfMore, LawOfMoves, LawOfNone, LawOfOne, LawOfReply, LawOfRight, LawOfRoom, LawOfSends, LawOfTimes};
+ghost use Rattle.time_machine.specs.Laws.{LawOfAccepted, LawOfAnswer, LawOfBelow, LawOfCounts, LawOfEarlier, LawOfJoins, LawOfLives, LawOfMore, LawOfMoves, LawOfNone, LawOfOne, LawOfReply, LawOfRight, LawOfRoom, LawOfSends, LawOfTimes};
 ghost use Rattle.time_machine.specs.Positions.{LawOfBase, LawOfBegin, LawOfChanges, LawOfEight, LawOfFirst, LawOfGreatest, LawOfLeaving, LawOfLifeWords, LawOfMoved, LawOfNothing, LawOfOpen, LawOfPoll, LawOfPrefix, LawOfSent, LawOfSince, LawOfSource, LawOfThisLife};
 
 /// What holds of histories, whatever is in them: of those that grow, of every one where that isn't asked.
@@ -13,6 +13,10 @@ pub fn laws_of_histories()
     ensures accepted { LawOfAccepted }
     ensures moves { LawOfMoves }
     ensures lives { LawOfLives }
+    // A reply to a request of an earlier life is refused, as NoRequest where none of the reasons before that applies.
+    // So is one with a count that isn't above the mark of the life in which it comes.
+    ensures earlier { LawOfEarlier }
+    ensures below { LawOfBelow }
     // At most eight requests are open, and an arrival answers one of them at most.
     ensures room { LawOfRoom }
     ensures one { LawOfOne }

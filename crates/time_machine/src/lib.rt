@@ -8,8 +8,9 @@
 //!
 //! It stands on `ms_auth` and `ntp_wire` for messages, on `key_book` for accounts, on `phase_rule` for limits and on
 //! `capture_fmt` for events. The layer above may rely on [`laws_of_histories`]: counts rise, no two replies are accepted
-//! for one request, at most eight requests are open, and one history may come after another. A reader who doubts a
-//! definition reads [`laws_of_positions`] beside it, which says the same of places in a history.
+//! for one request, a reply to a request of an earlier life is refused, at most eight requests are open, and one history
+//! may come after another. A reader who doubts a definition reads [`laws_of_positions`] beside it, which says the same of
+//! places in a history.
 //!
 //! The definitions, in the order to read them: `specs/Events.antt` (what happens), `Told.antt` (what came of it),
 //! `Words.antt` (what stands at the end of a history), `Verdict.antt` (the reasons), `Machine.antt` (what an event
