@@ -1,7 +1,8 @@
 //! Runs of a member over its devices in memory. Tests alone: nothing here is shipped.
 //!
 //! `lives.rt` has a whole run with its lines, its capture, its sends and its one correction; the same where one call of
-//! one device fails; and calls of a run that is already going.
+//! one device fails; and calls of a run that is already going. `order.rt` has in which order a run calls its devices, where
+//! no call fails.
 //!
 //! It stands on `member_run`, and on the objects in memory of `edge_io` and `slot_disk`. What is expected was worked out
 //! from the rules of the report and the capture; beside the reply stands the command that computed its checksum.
@@ -9,3 +10,5 @@
 
 #[cfg(test)]
 mod lives;
+#[cfg(test)]
+mod order;

@@ -77,7 +77,7 @@ link quiet=18 lost=0\n";
 
 /// The number of the call that fails, of each object. The call 0 is none.
 #[derive(Clone, Copy, Default)]
-struct Failing {
+pub(crate) struct Failing {
     link: u64,
     clock: u64,
     disk: u64,
@@ -88,13 +88,13 @@ struct Failing {
 
 /// The objects behind a run.
 #[derive(Drop)]
-struct Objects {
-    link: ScriptLink,
-    clock: ScriptClock,
-    disk: MemoryDisk,
-    entropy: ScriptEntropy,
-    out: ScriptSink,
-    capture: ScriptSink,
+pub(crate) struct Objects {
+    pub link: ScriptLink,
+    pub clock: ScriptClock,
+    pub disk: MemoryDisk,
+    pub entropy: ScriptEntropy,
+    pub out: ScriptSink,
+    pub capture: ScriptSink,
 }
 
 /// How a run ended, and the objects behind it.
@@ -105,7 +105,7 @@ struct Ran {
 }
 
 /// The member WS1, whose ranked partners are 10.0.0.2, 10.0.0.1 and 10.0.0.3, with the limits that it has by default.
-fn conf_of(alloc: Global) -> Result<Conf, AllocError> {
+pub(crate) fn conf_of(alloc: Global) -> Result<Conf, AllocError> {
     let account = Account {
         rid: 1103,
         current: [0, 1, 2, 3, 4, 5, 6, 7, 8, 9, 10, 11, 12, 13, 14, 15],
@@ -166,7 +166,7 @@ fn readings_among(alloc: Global, numbers: &[i64]) -> Result<Vec<i64>, AllocError
 }
 
 /// The readings of the realistic run.
-fn readings_of(alloc: Global) -> Result<Vec<i64>, AllocError>
+pub(crate) fn readings_of(alloc: Global) -> Result<Vec<i64>, AllocError>
     ensures { IfOk result (λ readings. All IsReading readings.items) }
 {
     let times = times_of(alloc)?;
@@ -174,7 +174,7 @@ fn readings_of(alloc: Global) -> Result<Vec<i64>, AllocError>
 }
 
 /// Nothing, ten zero bytes, and the reply.
-fn receipts_of(alloc: Global) -> Result<Vec<Receipt>, AllocError>
+pub(crate) fn receipts_of(alloc: Global) -> Result<Vec<Receipt>, AllocError>
     ensures { IfOk result (λ receipts. All IsNoFailure receipts.items) }
 {
     let mut receipts = Vec::new(alloc);
@@ -222,7 +222,7 @@ fn sink_of(alloc: Global, call: u64) -> Result<ScriptSink, Fail> {
 }
 
 /// Objects that give these receipts and readings, with these failing calls.
-fn objects_of(
+pub(crate) fn objects_of(
     alloc: Global,
     receipts: Vec<Receipt>,
     readings: Vec<i64>,

@@ -1,5 +1,5 @@
 -- What taking a Life leads to.
-use Rattle.std.proofs.Common.{◌≡◌, ℕ, List, ◌∷◌, Option, Some, IsTrue, OnOk, Result, Ok, Err, refl, sym, ◌∙◌, ap, subst}
+use Rattle.std.proofs.Common.{◌≡◌, ◌<◌, ℕ, List, ◌∷◌, length, Option, Some, IsTrue, OnErr, OnOk, Result, Ok, Err, refl, sym, ◌∙◌, ap, subst}
 use Rattle.std.proofs.lemmas.Bool.{false≢true}
 use Rattle.edge_traits.specs.Clock.{ClockTold}
 use Rattle.edge_traits.specs.Link.{LinkTold}
@@ -17,8 +17,9 @@ use Rattle.sntp_core.specs.declared.member.Member.{Member}
 use Rattle.sntp_core.specs.Standing.{StandsForHistory, conf_of}
 use Rattle.run_deeds.specs.declared.life_end.LifeEnd.{LifeEnd}
 use Rattle.run_deeds.specs.declared.life_end.Why.{Why}
-use Rattle.run_deeds.specs.declared.life_end.Why.TheVariants.{Done}
+use Rattle.run_deeds.specs.declared.life_end.Why.TheVariants.{Done, SinkFault}
 use Rattle.run_deeds.specs.Counting.{counted}
+use Rattle.run_deeds.specs.Parts.{why_of}
 use Rattle.run_deeds.specs.Devices.{faults, seen}
 use Rattle.member_run.specs.Asking.{WrittenBy}
 use Rattle.member_run.specs.Taking.{Acts, Takes, last_after, nothing}
@@ -47,12 +48,18 @@ pub takes_life : (conf : Conf) (history : History) (event : Event) (outcome : Ou
     (lf cf ef df kf kf' of of' : ℕ) (end new : LifeEnd) (why : Why)
     → IsTrue (is_life event) → conf_of member ≡ conf → StandsForHistory member (event ∷ history) → EventFits event → outcome ≡ outcome_at conf history event
     → WrittenBy Done (event_bytes event) capture capture' kf kf' → new ≡ counted event outcome end → WrittenBy why (line_of outcome) out out' of of'
+    → (why ≡ SinkFault → 0 < length (line_of outcome))
     → Takes conf history event nothing (seen link clock words capture out lf (faults cf ef df kf of)) (seen link clock words capture' out' lf (faults cf ef df kf' of')) member end new why
-takes_life conf history event outcome member link clock words capture capture' out out' lf cf ef df kf kf' of of' end new why is is_set stands fits leads written was line =
+takes_life conf history event outcome member link clock words capture capture' out out' lf cf ef df kf kf' of of' end new why is is_set stands fits leads written was line some =
     let starts = life_starts conf history event is in
     let acts : Acts outcome link link clock clock lf lf new new =
     subst (λ (o : Outcome). Acts o link link clock clock lf lf new new) (sym (leads ∙ starts.1)) (acts_not starts.0 link clock lf new) in
-    takes_all conf history event outcome member link link clock clock words capture capture' out out' lf lf cf ef df kf kf' of of' end new new why is_set stands fits leads written was acts line
+    takes_all conf history event outcome member link link clock clock words capture capture' out out' lf lf cf ef df kf kf' of of' end new new why is_set stands fits leads written was acts line some
+
+-- what holds where a call failed holds where its answer is that of a sink
+pub on_fault : {A P : Type 0} (result : Result A Why) → OnErr result P → why_of result ≡ SinkFault → P
+on_fault (Ok given) failed is = absurd (let no : Done ≡ SinkFault = is in let bad : ⊥ = cc in bad)
+on_fault (Err why) failed is = failed
 
 -- what holds always holds where a call succeeds
 pub on_ok_always : {A E : Type 0} {P : Type 0} (result : Result A E) → P → OnOk result P

@@ -16,3 +16,5 @@ pub mod Living
 pub mod Causes
 pub mod Rounding
 pub mod Calling
+pub mod Ahead
+pub mod Enough

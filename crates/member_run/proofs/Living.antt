@@ -42,7 +42,7 @@ use Rattle.run_deeds.specs.declared.life_end.Why.TheVariants.{Done, DiskFault, B
 use Rattle.run_deeds.specs.Closing.{closing_by, closing_lines}
 use Rattle.run_deeds.specs.Counting.{ended, more, with_why}
 use Rattle.run_deeds.specs.Weaving.{Need, Start, Turns, WordFor, ReceiptNow, ReadingFor, Call, CallReading, CallWord, Round, RoundReading, Stood, Weaves, none, life, reads, draws, followed_by, turns_of, weave}
-use Rattle.run_deeds.specs.Deeds.{Deed, Take, Print, Ending, Whole, NoRecord, NoLine, IsWhole, all_done, along, cut_record, events_given, history_after, line_in, missing_in, posted_in, moves_in, printed, reasons_in, ticks_in}
+use Rattle.run_deeds.specs.Deeds.{Deed, Take, Print, Ending, Whole, NoRecord, NoLine, HasLine, IsWhole, all_done, along, cut_record, events_given, history_after, line_in, missing_in, posted_in, moves_in, printed, reasons_in, ticks_in}
 use Rattle.run_deeds.specs.Devices.{Faults, Given, IsBeforeTick, LifeEndsBy, NeedsDisk, NeedsMark, NeedsReading, Seen, SinkFailed, StopsAt, Timed, faults, posted_of, seen}
 use Rattle.run_deeds.specs.Marks.{AddsNoMark, Covers, KeepsLoadable, MarksBeforeSends, Reserved, blocks_of}
 use Rattle.run_deeds.specs.Parts.{Part, Runs, Tallies}
@@ -208,12 +208,12 @@ closing_none EntropyFault end not = refl
 closing_none SinkFault end not = refl
 
 pub reports_of : (conf : Conf) (end : LifeEnd) (deeds : List Deed) (ending : Ending) (need : Need) (taken : List Event) → all_done deeds ending ≡ map Take taken → end.why ≢ Done
-    → Reports conf (reverse taken) end ending need (printed conf [] deeds ending)
-reports_of conf end deeds Whole need taken is not =
+    → HasLine conf [] deeds ending → Reports conf (reverse taken) end ending need (printed conf [] deeds ending)
+reports_of conf end deeds Whole need taken is not has =
     let report = report_of conf (reverse taken) in
     ap (along (line_in conf) []) is ∙ sym (lines_are conf taken) ∙ sym (append-nil report) ∙ ap (λ (ls : List (List ℕ)). report ++ joined ls) (sym (closing_none end.why end not))
-reports_of conf end deeds (NoRecord event front) need taken is not = ap (along (line_in conf) []) is ∙ sym (lines_are conf taken)
-reports_of conf end deeds (NoLine (Take event) front) need taken is not =
+reports_of conf end deeds (NoRecord event front) need taken is not has = ap (along (line_in conf) []) is ∙ sym (lines_are conf taken)
+reports_of conf end deeds (NoLine (Take event) front) need taken is not has =
     let last = ends_taken deeds (Take event) taken is in
     let one : Take event ≡ Take last.event = last.deed_is in
     let same : last.event ≡ event = cc in
@@ -221,10 +221,11 @@ reports_of conf end deeds (NoLine (Take event) front) need taken is not =
     let lines : along (line_in conf) [] deeds ≡ report_of conf (reverse last.before) = ap (along (line_in conf) []) last.deeds_are ∙ sym (lines_are conf last.before) in (
       reverse last.before,
       ap reverse last.is ∙ reverse_last last.before last.event ∙ ap (λ (e : Event). e ∷ reverse last.before) same,
+      subst (λ (h : History). 0 < length (line_of (outcome_at conf h event))) older has,
       ap (λ (l : List ℕ). l ++ take front (line_of (outcome_at conf (history_after [] deeds) event))) lines
           ∙ ap (λ (h : History). report_of conf (reverse last.before) ++ take front (line_of (outcome_at conf h event))) older,
     )
-reports_of conf end deeds (NoLine (Print line) front) need taken is not =
+reports_of conf end deeds (NoLine (Print line) front) need taken is not has =
     let last = ends_taken deeds (Print line) taken is in
     absurd (let one : Print line ≡ Take last.event = last.deed_is in let bad : ⊥ = cc in bad)
 
@@ -528,7 +529,7 @@ lives_stopped conf turns entry mid exit before between now old new why not begun
     let end = with_why why (totals_of new) in
     lives_made conf turns entry exit before now stood r.given r.tried r.taken r.ending r.need end (printed conf [] r.deeds r.ending) begun.stood_for
     (lived_with conf turns stood before now r.given r.tried r.taken r.ending r.need why (totals_of new) lived)
-    (reports_of conf end r.deeds r.ending r.need r.taken r.takes not) r.does.out r.ends r.well (λ is now only. absurd (p.behind is now only))
+    (reports_of conf end r.deeds r.ending r.need r.taken r.takes not r.does.has_line) r.does.out r.ends r.well (λ is now only. absurd (p.behind is now only))
     (kept_by conf why stood r.taken entry exit p.begins p.due) (λ any. loads) (loads_then loads_first loads_next)
     (marks_kept conf stood.mark (greatest_of new) r.taken entry exit p.begins covers p.greatest (marks_then first next))
     (λ some. within_of conf turns stood mid exit before now new why p)
@@ -856,7 +857,7 @@ lives_never conf turns entry exit before now why of stopped version left loads c
     let Q : List ℕ → List Request → Type 0 = λ (image : List ℕ) (rs : List Request). AllByRecursion (λ q. q.count ≤ mark_of_image image) rs in
     lives_made conf turns entry exit before now stood all.given all.tried all.taken all.ending all.need (ended why) (printed conf [] all.deeds all.ending) stopped.stood_for
     (lived_with conf turns stood before now all.given all.tried all.taken all.ending all.need why (ended Done) lived)
-    (reports_of conf (ended why) all.deeds all.ending all.need all.taken all.takes not) all.does.out all.ends (λ is. absurd (not is))
+    (reports_of conf (ended why) all.deeds all.ending all.need all.taken all.takes not all.does.has_line) all.does.out all.ends (λ is. absurd (not is))
     (λ is time only. first_turn turns r.need (events_given r.deeds r.ending) (Life time stood.mark) (start_none r.weaves) (given_are r.deeds r.ending r.taken r.takes ∙ only))
     (kept_at_start why conf stood entry exit before now r.deeds r.ending r.need r.taken (told conf (reverse all.taken)) of r.takes (start_none r.weaves) r.ends version left)
     (loadable_of (begun_not why before now r.deeds r.ending r.need r.taken of r.takes (start_none r.weaves) r.ends) (λ neither. loads neither.0 neither.1))

@@ -1,5 +1,5 @@
 -- What taking one event does, whichever call fails.
-use Rattle.std.proofs.Common.{◌≡◌, ◌+◌, ℕ, List, [], ◌∷◌, length, map, take, Option, refl, sym, ◌∙◌, ap, subst, arith}
+use Rattle.std.proofs.Common.{◌≡◌, ◌<◌, ◌+◌, ℕ, List, [], ◌∷◌, length, map, take, Option, refl, sym, ◌∙◌, ap, subst, arith}
 use Rattle.std.proofs.lemmas.List.{append-nil}
 use Rattle.base_specs.specs.Counts.{FailsTimes}
 use Rattle.base_specs.specs.Told.{Added}
@@ -51,6 +51,7 @@ no_record conf history event member link clock words capture capture' out link_f
     clock = timed_none clock;
     words = added_none words;
     fit = (fits, tt);
+    has_line = tt;
     capture = added;
     out = added_none out;
     link_failed = fails_none link_faults;
@@ -106,10 +107,10 @@ pub takes_all : (conf : Conf) (history : History) (event : Event) (outcome : Out
     → conf_of member ≡ conf → StandsForHistory member (event ∷ history) → EventFits event → outcome ≡ outcome_at conf history event
     → WrittenBy Done (event_bytes event) capture capture' kf kf'
     → mid ≡ counted event outcome end → Acts outcome link link' clock clock' lf lf' mid new
-    → WrittenBy why (line_of outcome) out out' of of'
+    → WrittenBy why (line_of outcome) out out' of of' → (why ≡ SinkFault → 0 < length (line_of outcome))
     → Takes conf history event nothing (seen link clock words capture out lf (faults cf ef df kf of)) (seen link' clock' words capture' out' lf' (faults cf ef df kf' of')) member end new why
 takes_all conf history event outcome member link link' clock clock' words capture capture' out out' lf lf' cf ef df kf kf' of of' end mid new Done
-    is_set stands fits leads (added, none) was acts (line, none') = record {
+    is_set stands fits leads (added, none) was acts (line, none') some = record {
       tried = acts.tried;
       deeds = Take event ∷ [];
       ending = Whole;
@@ -122,6 +123,7 @@ takes_all conf history event outcome member link link' clock clock' words captur
         clock = made_moves clock clock' (along (moves_in conf) history (Take event ∷ [])) (rw (← moves_one conf history event outcome leads) acts.moves);
         words = added_none words;
         fit = (fits, tt);
+        has_line = tt;
         capture = subst (λ (l : List ℕ). Added capture capture' l) (sym (append-nil (event_bytes event))) added;
         out = subst (λ (l : List ℕ). Added out out' l) (ap line_of leads ∙ sym (append-nil (line_of (outcome_at conf history event)))) line;
         link_failed = lost_one acts.tried lf lf' acts.link_failed;
@@ -132,7 +134,7 @@ takes_all conf history event outcome member link link' clock clock' words captur
       ends = (tt, λ i. faults cf ef df (none i) (none' i));
     }
 takes_all conf history event outcome member link link' clock clock' words capture capture' out out' lf lf' cf ef df kf kf' of of' end mid new SinkFault
-    is_set stands fits leads (added, none) was acts (front, line, fails) = record {
+    is_set stands fits leads (added, none) was acts (front, line, fails) some = record {
       tried = acts.tried;
       deeds = [];
       ending = NoLine (Take event) front;
@@ -145,6 +147,7 @@ takes_all conf history event outcome member link link' clock clock' words captur
         clock = made_moves clock clock' (along (moves_in conf) history (Take event ∷ [])) (rw (← moves_one conf history event outcome leads) acts.moves);
         words = added_none words;
         fit = (fits, tt);
+        has_line = subst (λ (o : Outcome). 0 < length (line_of o)) leads (some refl);
         capture = subst (λ (l : List ℕ). Added capture capture' l) (sym (append-nil (event_bytes event))) added;
         out = subst (λ (o : Outcome). Added out out' (take front (line_of o))) leads line;
         link_failed = lost_one acts.tried lf lf' acts.link_failed;
@@ -155,12 +158,12 @@ takes_all conf history event outcome member link link' clock clock' words captur
       ends = (fails, λ i. faults cf ef df (none i) of');
     }
 takes_all conf history event outcome member link link' clock clock' words capture capture' out out' lf lf' cf ef df kf kf' of of' end mid new DiskFault
-    is_set stands fits leads written was acts line = absurd line
+    is_set stands fits leads written was acts line some = absurd line
 takes_all conf history event outcome member link link' clock clock' words capture capture' out out' lf lf' cf ef df kf kf' of of' end mid new BadVersion
-    is_set stands fits leads written was acts line = absurd line
+    is_set stands fits leads written was acts line some = absurd line
 takes_all conf history event outcome member link link' clock clock' words capture capture' out out' lf lf' cf ef df kf kf' of of' end mid new StampsSpent
-    is_set stands fits leads written was acts line = absurd line
+    is_set stands fits leads written was acts line some = absurd line
 takes_all conf history event outcome member link link' clock clock' words capture capture' out out' lf lf' cf ef df kf kf' of of' end mid new ClockFault
-    is_set stands fits leads written was acts line = absurd line
+    is_set stands fits leads written was acts line some = absurd line
 takes_all conf history event outcome member link link' clock clock' words capture capture' out out' lf lf' cf ef df kf kf' of of' end mid new EntropyFault
-    is_set stands fits leads written was acts line = absurd line
+    is_set stands fits leads written was acts line some = absurd line

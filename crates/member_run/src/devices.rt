@@ -50,6 +50,7 @@ pub(crate) fn write_record<O: Sink>(event: &Event, capture: &mut O) -> Result<()
 pub(crate) fn write_line<O: Sink>(outcome: &Outcome, out: &mut O) -> Result<(), Why>
     ensures bytes { WrittenBy (why_of result) (line_of outcome.now) (O.written out.old)
         (O.written out.new) (O.faults out.old) (O.faults out.new) }
+    ensures has_line { OnErr result (0 < length (line_of outcome.now)) }
     ensures why { OnErr result (result ≡ Err Why.SinkFault) }
 {
     let line = line_of(outcome);

@@ -1,5 +1,7 @@
 //! A whole run.
-ghost use Rattle.std.specs.Prelude.{◌≡◌, ◌⊎◌, ◌≤◌};
+ghost use Rattle.std.specs.Prelude.{◌≡◌, ◌⊎◌, ◌+◌, ◌≤◌, ℕ, List, Some};
+ghost use Rattle.stamp_keep.specs.Image.{mark_of_image};
+ghost use Rattle.stamp_keep.specs.Keep.{IsLoadable};
 ghost use Rattle.run_deeds.specs.declared.life_end.Why.{Why};
 ghost use Rattle.run_deeds.specs.Counting.{with_why};
 ghost use Rattle.run_deeds.specs.Devices.{NoneRose, faults, seen};
@@ -46,6 +48,17 @@ pub fn live<L: Link, C: Clock, D: Disk, E: Entropy, O: Sink>(
         (faults (C.faults clock.new) (E.faults entropy.new) (D.faults disk.new)
         (O.faults capture.new) (O.faults out.new))
         → (result.why ≡ Why.Done) ⊎ (result.why ≡ Why.BadVersion) ⊎ (result.why ≡ Why.StampsSpent) }
+
+    // Where the disk's content is told and of this version, its mark and the turns together are 4,294,967,232 at most, so
+    // that each block that may be due fits, and no call failed, it is done.
+    ensures enough { (content : List ℕ) → (D.told disk.old).content ≡ Some content → IsLoadable content
+        → mark_of_image content + turns ≤ 4294967232
+        → NoneRose
+        (faults (C.faults clock.old) (E.faults entropy.old) (D.faults disk.old)
+        (O.faults capture.old) (O.faults out.old))
+        (faults (C.faults clock.new) (E.faults entropy.new) (D.faults disk.new)
+        (O.faults capture.new) (O.faults out.new))
+        → result.why ≡ Why.Done }
 
     // No count falls.
     ensures link_count { L.faults link.old ≤ L.faults link.new }

@@ -7,7 +7,7 @@ use Rattle.capture_fmt.specs.Record.{event_bytes}
 use Rattle.time_machine.specs.declared.conf.Conf.{Conf}
 use Rattle.time_machine.specs.Events.{History}
 use Rattle.run_deeds.specs.Weaving.{followed_by}
-use Rattle.run_deeds.specs.Deeds.{Deed, Take, Print, Ending, Whole, NoRecord, NoLine, along, all_done, captured, events_given, events_in, goes_on, history_after, line_in, printed, record_in}
+use Rattle.run_deeds.specs.Deeds.{Deed, Take, Print, Ending, Whole, NoRecord, NoLine, HasLine, along, all_done, captured, events_given, events_in, goes_on, history_after, line_in, printed, record_in}
 
 pub history_after-append : (history : History) (ds es : List Deed) → history_after history (ds ++ es) ≡ history_after (history_after history ds) es
 history_after-append history [] es = refl
@@ -48,6 +48,12 @@ printed-append conf history ds es Whole = along-append (line_in conf) history ds
 printed-append conf history ds es (NoRecord event front) = along-append (line_in conf) history ds es
 printed-append conf history ds es (NoLine deed front) =
     rw (history_after-append, along-append) (append_assoc (along (line_in conf) history ds) (along (line_in conf) (history_after history ds) es) _)
+
+pub has_line-append : (conf : Conf) (history : History) (ds es : List Deed) (ending : Ending) → HasLine conf (history_after history ds) es ending → HasLine conf history (ds ++ es) ending
+has_line-append conf history ds es Whole has = tt
+has_line-append conf history ds es (NoRecord event front) has = tt
+has_line-append conf history ds es (NoLine (Take event) front) has = rw history_after-append has
+has_line-append conf history ds es (NoLine (Print line) front) has = tt
 
 -- ---- The history
 

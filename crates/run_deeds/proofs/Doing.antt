@@ -16,7 +16,7 @@ use Rattle.time_machine.specs.declared.conf.Conf.{Conf}
 use Rattle.time_machine.specs.Events.{History}
 use Rattle.run_deeds.specs.Deeds.{Deed, Ending, Whole, along, all_done, history_after, moves_in, posted_in}
 use Rattle.run_deeds.specs.Devices.{Does, Faults, Given, Seen, Timed, posted_of, seen}
-use Rattle.run_deeds.proofs.Deeding.{all-append, all_done-append, along-append, captured-append, events_given-append, printed-append}
+use Rattle.run_deeds.proofs.Deeding.{all-append, all_done-append, along-append, captured-append, events_given-append, has_line-append, printed-append}
 
 pub timed_none : (told : Option ClockTold) → Timed told told [] []
 timed_none None = tt
@@ -36,6 +36,7 @@ does_none conf history now = record {
   clock = timed_none now.clock;
   words = added_none now.words;
   fit = tt;
+  has_line = tt;
   capture = added_none now.capture;
   out = added_none now.out;
   link_failed = fails_none now.link_faults;
@@ -66,6 +67,7 @@ does_then conf history given later tried next ds es ending before mid now first 
       fit = rw (events_given-append ds es ending) (all-append EventFits _ _ first.fit second.fit);
       capture = rw (captured-append ds es ending) (added_more before.capture mid.capture now.capture _ _ first.capture second.capture);
       out = rw (printed-append conf history ds es ending) (added_more before.out mid.out now.out _ _ first.out second.out);
+      has_line = has_line-append conf history ds es ending second.has_line;
       link_failed = subst Failed (failed_more given.receipts later.receipts tried next) (fails_more _ _ before.link_faults mid.link_faults now.link_faults first.link_failed second.link_failed);
     }
 
@@ -96,6 +98,7 @@ does_read conf history link clock clock' words capture out link_faults f f' now 
   clock = changed_as _ _ clock clock' (λ (t : ClockTold). λ i. record { readings = t.readings ++ now ∷ []; moves = sym (append-nil t.moves) i }) gave;
   words = added_none words;
   fit = tt;
+  has_line = tt;
   capture = added_none capture;
   out = added_none out;
   link_failed = fails_none link_faults;
@@ -111,6 +114,7 @@ does_draw conf history link clock words words' capture out link_faults f f' word
   clock = timed_none clock;
   words = gave;
   fit = tt;
+  has_line = tt;
   capture = added_none capture;
   out = added_none out;
   link_failed = fails_none link_faults;
@@ -128,6 +132,7 @@ does_receive conf history link link' clock words capture out lf lf' f receipt ga
       clock = timed_none clock;
       words = added_none words;
       fit = tt;
+      has_line = tt;
       capture = added_none capture;
       out = added_none out;
       link_failed = subst (λ (n : ℕ). FailsTimes n lf lf') same (receipt_counts receipt lf lf' counts);

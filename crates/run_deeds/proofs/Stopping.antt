@@ -29,6 +29,7 @@ does_still conf history link clock words capture out link_faults before now =
       clock = same.clock;
       words = same.words;
       fit = same.fit;
+      has_line = same.has_line;
       capture = same.capture;
       out = same.out;
       link_failed = same.link_failed;

@@ -1,5 +1,5 @@
 -- What a run does, deed by deed.
-use Rattle.std.specs.Prelude.{ℕ, List, [], ◌∷◌, ◌++◌, take, flat_map, ⊤}
+use Rattle.std.specs.Prelude.{◌<◌, ℕ, List, [], ◌∷◌, ◌++◌, length, take, flat_map, ⊤}
 use Rattle.edge_traits.specs.declared.clock.Move.{Move}
 use Rattle.capture_fmt.specs.declared.event.Event.{Event}
 use Rattle.capture_fmt.specs.declared.event.Event.TheVariants.{Tick}
@@ -109,6 +109,11 @@ abbrev pub IsWhole : Ending → Type 0
 IsWhole Whole = ⊤
 IsWhole (NoRecord event front) = ⊥
 IsWhole (NoLine deed front) = ⊥
+
+-- where the line of an event is not whole, there is a line of it
+abbrev pub HasLine : Conf → History → List Deed → Ending → Type 0
+HasLine conf history deeds (NoLine (Take event) front) = 0 < length (line_of (outcome_at conf (history_after history deeds) event))
+HasLine conf history deeds _ = ⊤
 
 -- ---- All of it
 

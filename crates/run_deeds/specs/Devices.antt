@@ -17,7 +17,7 @@ use Rattle.time_machine.specs.Machine.{Posted}
 use Rattle.run_deeds.specs.declared.life_end.Why.{Why}
 use Rattle.run_deeds.specs.declared.life_end.Why.TheVariants.{Done, DiskFault, BadVersion, StampsSpent, ClockFault, EntropyFault, SinkFault}
 use Rattle.run_deeds.specs.Weaving.{Need, Start, Turns, WordFor, ReceiptNow, ReadingFor, Call, CallReading, CallWord, Round, RoundReading}
-use Rattle.run_deeds.specs.Deeds.{Deed, Take, Print, Ending, Whole, NoRecord, NoLine, IsWhole, along, posted_in, moves_in, all_done, events_given, captured, printed}
+use Rattle.run_deeds.specs.Deeds.{Deed, Take, Print, Ending, Whole, NoRecord, NoLine, HasLine, IsWhole, along, posted_in, moves_in, all_done, events_given, captured, printed}
 
 -- how often a call has failed, of each object whose fault ends a run
 pub record Faults : Type 0 where
@@ -72,6 +72,7 @@ pub record Does (conf : Conf) (history : History) (given : Given) (tried : List 
   pub fit : AllByRecursion EventFits (events_given deeds ending)
   pub capture : Added before.capture now.capture (captured deeds ending)
   pub out : Added before.out now.out (printed conf history deeds ending)
+  pub has_line : HasLine conf history deeds ending
   pub link_failed : FailsTimes (failed_receipts given.receipts + failed_sends tried) before.link_faults now.link_faults
 
 -- ---- Why a part of a run ended

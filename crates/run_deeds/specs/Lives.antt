@@ -34,12 +34,13 @@ use Rattle.run_deeds.specs.Closing.{closing_lines, closing_by}
 use Rattle.run_deeds.specs.Marks.{IsDue, KeepsLoadable, MarksBeforeSends, blocks_of}
 
 -- What was printed. All lines of the events taken, and the closing lines where the run ended well; or all lines but
--- the last event's, and a front of that one; or all lines of all turns, and a front of the closing lines.
+-- the last event's, which is not empty, and a front of that one; or all lines of all turns, and a front of the closing
+-- lines.
 abbrev pub Reports : Conf → History → LifeEnd → Ending → Need → List ℕ → Type 0
 Reports conf history end Whole need text = text ≡ report_of conf history ++ joined (closing_by end.why end)
 Reports conf history end (NoRecord event front) need text = text ≡ report_of conf history
 Reports conf history end (NoLine (Take event) front) need text =
-    (before : History) × (history ≡ event ∷ before)
+    (before : History) × (history ≡ event ∷ before) × (0 < length (line_of (outcome_at conf before event)))
     × (text ≡ report_of conf before ++ take front (line_of (outcome_at conf before event)))
 Reports conf history end (NoLine (Print line) front) need text =
     (before after : List (List ℕ)) × (need ≡ Turns 0) × (closing_lines end ≡ before ++ line ∷ after)

@@ -6,7 +6,6 @@ mod Living
 mod Monitoring
 mod Replaying
 mod Requests
-mod Sends
 mod Showing
 mod Signing
 mod Writings

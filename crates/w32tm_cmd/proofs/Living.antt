@@ -2,10 +2,11 @@
 use Rattle.std.proofs.Common.{◌≡◌, ◌≢◌, ◌⊎◌, ◌+◌, ◌<◌, ◌≤◌, ℕ, List, [], ◌++◌, reverse, Option, Some, IfSome, inl, inr, refl, sym, ◌∙◌, ap, subst, arith}
 use Rattle.std.proofs.lemmas.List.{append-nil}
 use Rattle.capture_fmt.specs.declared.event.Event.{Event}
-use Rattle.member_run.proofs.Blocks.{blocks_in, sends_in}
+use Rattle.member_run.proofs.Blocks.{blocks_in}
+use Rattle.member_run.proofs.Enough.{had_few, none_missing}
 use Rattle.member_run.proofs.Ordered.{followed_none}
 use Rattle.member_run.proofs.Turning.{whole_reserves}
-use Rattle.run_deeds.specs.Deeds.{Ending, Whole, NoRecord, NoLine, IsWhole, missing_in}
+use Rattle.run_deeds.specs.Deeds.{missing_in}
 use Rattle.run_deeds.specs.Devices.{LifeEndsBy, NoneRose}
 use Rattle.run_deeds.specs.Lives.{KeptBy}
 use Rattle.run_deeds.specs.declared.life_end.LifeEnd.{LifeEnd}
@@ -21,7 +22,6 @@ use Rattle.w32tm_cmd.specs.Config.{StopsAtConfig}
 use Rattle.w32tm_cmd.specs.Member.{IsBadKeeperExact, IsMemberComplete, IsMemberFaultless, IsMemberDoneWithin, IsStampsSpentExact, LivesUntil, MemberPromise, RunsMember, member_seen}
 use Rattle.w32tm_cmd.specs.Partners.{HasNoPartner}
 use Rattle.w32tm_cmd.specs.Seen.{Seen}
-use Rattle.w32tm_cmd.proofs.Sends.{run_ahead}
 use Rattle.w32tm_cmd.proofs.Configuring.{same_settings, settings_exact, stops_exact, stops_for_memory, stops_else}
 use Rattle.w32tm_text.specs.Conf.{HasNoCandidate}
 use Rattle.w32tm_text.specs.declared.status.Status.{Status}
@@ -107,11 +107,6 @@ bad_keeper_of turns entry exit before now why.EntropyFault runs bytes content se
 bad_keeper_of turns entry exit before now why.SinkFault runs bytes content settings given says some disk other =
     absurd (fits_version turns entry exit before now why.SinkFault runs content disk other (λ is. cc is) (λ is. cc is))
 
-none_missing : (ending : Ending) → IsWhole ending → missing_in ending ≡ []
-none_missing Whole whole = refl
-none_missing (NoRecord event front) whole = absurd whole
-none_missing (NoLine deed front) whole = refl
-
 -- a run whose turns were all taken had a block left
 had_room : (turns : ℕ) (entry exit : DiskTold) (before now : Seen) (runs : LivesUntil turns entry exit before now why.Done) (content : List ℕ)
     → 0 < turns → entry.content ≡ Some content → 4294967231 < mark_of_image content → ⊥
@@ -149,19 +144,6 @@ spent_of turns entry exit before now why.EntropyFault runs complete bytes conten
 spent_of turns entry exit before now why.SinkFault runs complete bytes content settings more given says some disk loadable above none =
     spent_by (λ is. cc is) (complete bytes content settings given says some disk loadable none)
 
--- a run that was short of a count had fewer counts than turns
-had_few : (turns : ℕ) (entry exit : DiskTold) (before now : Seen) (runs : LivesUntil turns entry exit before now why.StampsSpent) (content : List ℕ)
-    → entry.content ≡ Some content → mark_of_image content + turns ≤ 4294967232 → ⊥
-had_few turns entry exit before now runs content disk fits =
-    let l = runs.lives in
-    let ends = subst (λ (w : Why). LifeEndsBy w l.ending l.need (member_seen before).faults (member_seen now).faults) runs.ended l.ends in
-    let given : l.events ++ missing_in l.ending ≡ l.events = ap (λ (es : List Event). l.events ++ es) (none_missing l.ending ends.0) ∙ append-nil l.events in
-    let P : List Event → Type 0 = λ (es : List Event). 1 + sends_in runs.conf es ≤ turns in
-    let ahead : P (reverse l.events) = subst P (followed_none (l.events ++ missing_in l.ending) ∙ ap reverse given) (run_ahead l.weaves ends.1) in
-    let mark : l.stood.mark ≡ mark_of_image content = subst (λ (o : Option (List ℕ)). IfSome o (λ c. l.stood.mark ≡ mark_of_image c)) disk l.stood_for in
-    let kept = subst (λ (w : Why). KeptBy w l.stood l.events (told runs.conf (reverse l.events)) entry exit) runs.ended l.kept in
-    omega (arith, mark, fits, ahead, kept.2)
-
 done_by : {A B C : Type 0} → (C → ⊥) → A ⊎ (B ⊎ C) → A ⊎ B
 done_by never (inl done) = inl done
 done_by never (inr (inl memory)) = inr memory
@@ -170,7 +152,7 @@ done_by never (inr (inr spent)) = absurd (never spent)
 enough_of : (turns : ℕ) (entry exit : DiskTold) (before now : Seen) (is : Why) → LivesUntil turns entry exit before now is → IsMemberComplete entry before now (answer_of is)
     → IsMemberDoneWithin turns entry before now (answer_of is)
 enough_of turns entry exit before now why.StampsSpent runs complete bytes content settings given says some disk loadable fits none =
-    absurd (had_few turns entry exit before now runs content disk fits)
+    absurd (had_few runs.conf turns entry exit (member_seen before) (member_seen now) runs.end content runs.lives runs.ended disk fits)
 enough_of turns entry exit before now why.Done runs complete bytes content settings given says some disk loadable fits none = inl refl
 enough_of turns entry exit before now why.DiskFault runs complete bytes content settings given says some disk loadable fits none =
     done_by (λ is. cc is) (complete bytes content settings given says some disk loadable none)

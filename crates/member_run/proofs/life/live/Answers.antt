@@ -3,6 +3,7 @@ use Rattle.run_deeds.specs.declared.life_end.Why.TheVariants.{BadVersion, DiskFa
 use Rattle.run_deeds.specs.Weaving.{Call, Turns}
 use Rattle.member_run.proofs.Living.{lives_closed, lives_never, lives_stopped}
 use Rattle.member_run.proofs.Causes.{none_blamed, none_fell}
+use Rattle.member_run.proofs.Enough.{done_within}
 use Rattle.member_run.proofs.life.live.Goals as goal
 use Rattle.member_run.proofs.life.live.Goals.{in-Ok-turned, in-Err-turned}
 
@@ -19,6 +20,9 @@ returns-in-Err-clause-lives g c =
 
 pub returns-in-Err-clause-complete : goal.returns-in-Err-clause-complete
 returns-in-Err-clause-complete g c = let l = returns-in-Err-clause-lives g c in none_blamed _ l.ending l.need _ _ l.ends
+
+pub returns-in-Err-clause-enough : goal.returns-in-Err-clause-enough
+returns-in-Err-clause-enough g c = done_within c.args.conf c.args.turns _ _ _ _ _ (returns-in-Err-clause-lives g c)
 
 pub returns-in-Err-clause-clock_count : goal.returns-in-Err-clause-clock_count
 returns-in-Err-clause-clock_count g c = let l = returns-in-Err-clause-lives g c in (none_fell _ l.ending l.need _ _ l.ends).clock
@@ -56,6 +60,9 @@ returns-clause-lives g c =
 
 pub returns-clause-complete : goal.returns-clause-complete
 returns-clause-complete g c = let l = returns-clause-lives g c in none_blamed _ l.ending l.need _ _ l.ends
+
+pub returns-clause-enough : goal.returns-clause-enough
+returns-clause-enough g c = done_within c.args.conf c.args.turns _ _ _ _ _ (returns-clause-lives g c)
 
 pub returns-clause-clock_count : goal.returns-clause-clock_count
 returns-clause-clock_count g c = let l = returns-clause-lives g c in (none_fell _ l.ending l.need _ _ l.ends).clock

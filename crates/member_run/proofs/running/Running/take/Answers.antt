@@ -1,6 +1,6 @@
 use Rattle.std.proofs.Common.{◌≡◌, refl}
 use Rattle.std.proofs.lemmas.Result.{err_from_is_err_and}
-use Rattle.run_deeds.specs.declared.life_end.Why.TheVariants.{SinkFault}
+use Rattle.run_deeds.specs.declared.life_end.Why.TheVariants.{Done, SinkFault}
 use Rattle.member_run.proofs.Takings.{no_record, takes_all}
 use Rattle.member_run.proofs.running.Running.take.Goals as goal
 
@@ -21,7 +21,7 @@ returns-in_err-write_line-clause-takes g c =
     let step = c.in_ok-outcome.ensures.steps history stands in
     takes_all _ history c.args.event.now c.in_ok-outcome.outcome c.act.new.self.member _ _ _ _ words _ _ _ _ _ _ _ entropy disk _ _ _ _ _ _ _ _
     (rw c.act.ensures.same c.in_ok-outcome.ensures.conf) (rw c.act.ensures.same step.1) c.requires.fits step.0 c.in_ok-outcome.ensures.record_bytes
-    c.in_ok-outcome.ensures.totals c.act.ensures.acts c.in_err-write_line.ensures.bytes)
+    c.in_ok-outcome.ensures.totals c.act.ensures.acts c.in_err-write_line.ensures.bytes (λ is. c.in_err-write_line.ensures.has_line))
 
 pub returns-clause-takes : goal.returns-clause-takes
 returns-clause-takes g c =
@@ -30,4 +30,4 @@ returns-clause-takes g c =
     let step = c.in_ok-outcome.ensures.steps history stands in
     takes_all _ history c.args.event.now c.in_ok-outcome.outcome c.act.new.self.member _ _ _ _ words _ _ _ _ _ _ _ entropy disk _ _ _ _ _ _ _ _
     (rw c.act.ensures.same c.in_ok-outcome.ensures.conf) (rw c.act.ensures.same step.1) c.requires.fits step.0 c.in_ok-outcome.ensures.record_bytes
-    c.in_ok-outcome.ensures.totals c.act.ensures.acts c.in_ok-write_line.ensures.bytes)
+    c.in_ok-outcome.ensures.totals c.act.ensures.acts c.in_ok-write_line.ensures.bytes (λ is. absurd (let no : Done ≡ SinkFault = is in let bad : ⊥ = cc in bad)))

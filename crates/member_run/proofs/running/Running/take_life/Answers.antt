@@ -1,7 +1,7 @@
 use Rattle.std.proofs.Common.{◌≡◌, refl}
 use Rattle.std.proofs.lemmas.Result.{err_from_is_err_and}
 use Rattle.run_deeds.specs.declared.life_end.Why.TheVariants.{SinkFault}
-use Rattle.member_run.proofs.Beginning.{life_last, life_totals, on_ok_always, takes_life}
+use Rattle.member_run.proofs.Beginning.{life_last, life_totals, on_fault, on_ok_always, takes_life}
 use Rattle.member_run.proofs.Takings.{no_record}
 use Rattle.member_run.proofs.running.Running.take_life.Goals as goal
 
@@ -19,6 +19,7 @@ returns-clause-takes g c = λ link clock words link_faults clock_faults entropy 
     let step = c.in_ok-outcome.ensures.steps history stands in
     takes_life _ history c.args.event.now c.in_ok-outcome.outcome c.step.new.self.member link clock words _ _ _ _ link_faults clock_faults entropy disk _ _ _ _ _ _ _
     c.requires.life c.in_ok-outcome.ensures.conf step.1 c.requires.fits step.0 c.in_ok-outcome.ensures.record_bytes c.in_ok-outcome.ensures.totals c.write_line.ensures.bytes
+    (on_fault c.write_line.result c.write_line.ensures.has_line)
 
 pub returns-clause-last : goal.returns-clause-last
 returns-clause-last g c =

@@ -1,0 +1,57 @@
+-- A run for whose turns there are counts enough.
+use Rattle.std.proofs.Common.{◌≡◌, ◌⊎◌, inl, inr, ◌+◌, ◌≤◌, ℕ, List, [], ◌++◌, reverse, Option, Some, IfSome, refl, ◌∙◌, ap, subst, arith}
+use Rattle.std.proofs.lemmas.List.{append-nil}
+use Rattle.capture_fmt.specs.declared.event.Event.{Event}
+use Rattle.slot_disk.specs.Told.{DiskTold}
+use Rattle.stamp_keep.specs.Image.{mark_of_image}
+use Rattle.stamp_keep.specs.Keep.{IsLoadable}
+use Rattle.stamp_keep.specs.Slots.{HasOtherVersion}
+use Rattle.time_machine.specs.declared.conf.Conf.{Conf}
+use Rattle.time_machine.specs.Machine.{told}
+use Rattle.run_deeds.specs.declared.life_end.LifeEnd.{LifeEnd}
+use Rattle.run_deeds.specs.declared.life_end.Why.{Why}
+use Rattle.run_deeds.specs.declared.life_end.Why.TheVariants.{Done, BadVersion, StampsSpent}
+use Rattle.run_deeds.specs.Deeds.{Ending, Whole, NoRecord, NoLine, IsWhole, missing_in}
+use Rattle.run_deeds.specs.Devices.{LifeEndsBy, NoneRose, Seen}
+use Rattle.run_deeds.specs.Lives.{KeptBy, Lives}
+use Rattle.member_run.proofs.Ahead.{run_ahead}
+use Rattle.member_run.proofs.Blocks.{sends_in}
+use Rattle.member_run.proofs.Causes.{none_blamed}
+use Rattle.member_run.proofs.Ordered.{followed_none}
+
+pub none_missing : (ending : Ending) → IsWhole ending → missing_in ending ≡ []
+none_missing Whole whole = refl
+none_missing (NoRecord event front) whole = absurd whole
+none_missing (NoLine deed front) whole = refl
+
+-- a run that was short of a count had fewer counts than turns
+pub had_few : (conf : Conf) (turns : ℕ) (entry exit : DiskTold) (before now : Seen) (end : LifeEnd) (content : List ℕ) → Lives conf turns entry exit before now end
+    → end.why ≡ StampsSpent → entry.content ≡ Some content → mark_of_image content + turns ≤ 4294967232 → ⊥
+had_few conf turns entry exit before now end content l spent disk fits =
+    let ends = subst (λ (w : Why). LifeEndsBy w l.ending l.need before.faults now.faults) spent l.ends in
+    let given : l.events ++ missing_in l.ending ≡ l.events = ap (λ (es : List Event). l.events ++ es) (none_missing l.ending ends.0) ∙ append-nil l.events in
+    let P : List Event → Type 0 = λ (es : List Event). 1 + sends_in conf es ≤ turns in
+    let ahead : P (reverse l.events) = subst P (followed_none (l.events ++ missing_in l.ending) ∙ ap reverse given) (run_ahead l.weaves ends.1) in
+    let mark : l.stood.mark ≡ mark_of_image content = subst (λ (o : Option (List ℕ)). IfSome o (λ c. l.stood.mark ≡ mark_of_image c)) disk l.stood_for in
+    let kept = subst (λ (w : Why). KeptBy w l.stood l.events (told conf (reverse l.events)) entry exit) spent l.kept in
+    omega (arith, mark, fits, ahead, kept.2)
+
+-- a run that found another version found no disk that can be loaded
+had_version : (conf : Conf) (turns : ℕ) (entry exit : DiskTold) (before now : Seen) (end : LifeEnd) (content : List ℕ) → Lives conf turns entry exit before now end
+    → end.why ≡ BadVersion → entry.content ≡ Some content → IsLoadable content → ⊥
+had_version conf turns entry exit before now end content l version disk loadable =
+    let kept = subst (λ (w : Why). KeptBy w l.stood l.events (told conf (reverse l.events)) entry exit) version l.kept in
+    loadable (subst (λ (o : Option (List ℕ)). IfSome o HasOtherVersion) disk kept.1)
+
+else_done : {A B C : Type 0} → (B → ⊥) → (C → ⊥) → A ⊎ B ⊎ C → A
+else_done version spent (inl done) = done
+else_done version spent (inr (inl other)) = absurd (version other)
+else_done version spent (inr (inr short)) = absurd (spent short)
+
+-- where no call failed, a run of a disk of this version whose counts suffice is done
+pub done_within : (conf : Conf) (turns : ℕ) (entry exit : DiskTold) (before now : Seen) (end : LifeEnd) → Lives conf turns entry exit before now end → (content : List ℕ)
+    → entry.content ≡ Some content → IsLoadable content → mark_of_image content + turns ≤ 4294967232 → NoneRose before.faults now.faults → end.why ≡ Done
+done_within conf turns entry exit before now end l content disk loadable fits none =
+    else_done (λ version. had_version conf turns entry exit before now end content l version disk loadable)
+    (λ spent. had_few conf turns entry exit before now end content l spent disk fits)
+    (none_blamed end.why l.ending l.need before.faults now.faults l.ends none)
