@@ -155,7 +155,7 @@ fn times_of(alloc: Global) -> Result<Vec<i64>, AllocError> {
 }
 
 /// The numbers among these that are readings.
-fn readings_among(alloc: Global, numbers: &[i64]) -> Result<Vec<i64>, AllocError>
+pub(crate) fn readings_among(alloc: Global, numbers: &[i64]) -> Result<Vec<i64>, AllocError>
     ensures { IfOk result (λ readings. All IsReading readings.items) }
 {
     numbers
