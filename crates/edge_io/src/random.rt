@@ -83,8 +83,9 @@ mod tests {
 
     #[test]
     fn words_of_four_bytes(rt: HostRuntime) -> Result<(), Fail> {
-        let mut entropy = RandomFile::new([1, 2, 3, 4, 0xFF, 0, 0, 0x80, 9].as_slice());
+        let mut entropy = RandomFile::new([1, 2, 3, 4, 0, 0, 0, 0, 0xFF, 0, 0, 0x80, 9].as_slice());
         assert_eq!(rt; entropy.word(), Drawn::Word(0x0403_0201));
+        assert_eq!(rt; entropy.word(), Drawn::Word(0));
         assert_eq!(rt; entropy.word(), Drawn::Word(0x8000_00FF));
         assert_eq!(rt; entropy.word(), Drawn::Failed);
         assert_eq!(rt; entropy.faults, 1);

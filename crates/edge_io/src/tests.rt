@@ -4,9 +4,9 @@ ghost use Rattle.base_specs.specs.Time.{IsReading};
 ghost use Rattle.edge_io.specs.LinkScript.{IsNoFailure};
 
 use crate::{
-    Addr, Clock, Datagram, Drawn, Entropy, Link, Move, NullSink, Opened, Put, ReaderSource,
-    Reading, Receipt, ScriptClock, ScriptEntropy, ScriptLink, ScriptSink, ScriptSource, ScriptWire,
-    Sink, Source, Take, Wire, WriterSink,
+    Addr, Clock, Datagram, Drawn, Entropy, Link, Move, NullSink, Opened, Put, RandomFile,
+    ReaderSource, Reading, Receipt, ScriptClock, ScriptEntropy, ScriptLink, ScriptSink,
+    ScriptSource, ScriptWire, Sink, Source, Take, Wire, WriterSink,
 };
 use std::alloc::{AllocError, Global};
 use std::io::{self, ErrorKind, Read, Write};
@@ -506,4 +506,31 @@ fn signals_are_no_faults(rt: HostRuntime) {
     assert_eq!(rt; sink.write(b"a"), Put::Failed);
     assert_eq!(rt; sink.write(b"ab"), Put::Failed, "nothing was taken of b");
     assert_eq!(rt; sink.write(b"a"), Put::Failed, "it could not be flushed");
+}
+
+#[test]
+fn many_signals_are_no_faults(rt: HostRuntime) {
+    let mut turns = [Turn::Signal; 300];
+    turns[299] = Turn::Byte;
+    let mut source = ReaderSource::new(Peer { turns: &turns });
+    wants_reads(&rt, &mut source, &["x"]);
+    let mut sink = WriterSink::new(Peer { turns: &turns });
+    assert_eq!(rt; sink.write(b"a"), Put::Done);
+
+    // The byte is taken at once, and the flush is cut short.
+    let mut turns = [Turn::Signal; 300];
+    turns[0] = Turn::Byte;
+    let mut sink = WriterSink::new(Peer { turns: &turns });
+    assert_eq!(rt; sink.write(b"a"), Put::Done);
+}
+
+#[test]
+fn calls_behind_a_fault(rt: HostRuntime) {
+    let turns = [Turn::Broken, Turn::Byte, Turn::Byte, Turn::Byte, Turn::Byte];
+    let mut sink = WriterSink::new(Peer { turns: &turns });
+    assert_eq!(rt; sink.write(b"a"), Put::Failed);
+    assert_eq!(rt; sink.write(b"a"), Put::Done);
+    let mut entropy = RandomFile::new(Peer { turns: &turns });
+    assert_eq!(rt; entropy.word(), Drawn::Failed);
+    assert_eq!(rt; entropy.word(), Drawn::Word(0x7878_7878));
 }

@@ -1,5 +1,6 @@
 //! Datagrams of a socket.
-ghost use Rattle.std.specs.Prelude.{◌≡◌, ◌≢◌, ◌≤◌, [], ◌∷◌, IfErr, IfOk, IsSome, None, length, take};
+ghost use Rattle.std.specs.Prelude.{◌≡◌, ◌≢◌, ◌≤◌, ◌⊎◌, [], ◌∷◌, IfErr, IfOk, IsFalse, IsSome, IsTrue};
+ghost use Rattle.std.specs.Prelude.{None, length, take};
 ghost use Rattle.std.specs.IoError.{error_kind};
 ghost use Rattle.std.specs.Net.Addr.{ipv4_bits, IsIpv4OfBits};
 ghost use Rattle.std.specs.Net.Socket.{v4_ip, v4_port};
@@ -142,7 +143,12 @@ fn addr_of(from: &SocketAddrV4) -> Addr
 }
 
 /// The time of a receive is over, and nothing came.
-fn is_time_over(error: &io::Error) -> bool {
+fn is_time_over(error: &io::Error) -> bool
+    ensures over { IsTrue result → (error_kind error.now ≡ ErrorKind.WouldBlock)
+        ⊎ (error_kind error.now ≡ ErrorKind.TimedOut) }
+    ensures other { IsFalse result → (error_kind error.now ≢ ErrorKind.WouldBlock)
+        × (error_kind error.now ≢ ErrorKind.TimedOut) }
+{
     matches!(error.kind(), ErrorKind::WouldBlock | ErrorKind::TimedOut)
 }
 
@@ -211,6 +217,32 @@ mod tests {
         assert!(rt; matches!(far.recv(), Receipt::Quiet));
         assert_eq!(rt; near.send(Addr { ip, port: 0 }, b"x"), Put::Failed);
         assert_eq!(rt; (near.faults, far.faults), (1, 0));
+        Ok(())
+    }
+
+    #[test]
+    fn a_link_sends_256_bytes_at_most(rt: HostRuntime) -> Result<(), Fail> {
+        let mut near = UdpLink::bind(&rt, 0)?;
+        let far = UdpSocket::bind(&rt, SocketAddrV4::new(Ipv4Addr::LOCALHOST, 0))?;
+        let (ip, port) = (LOCALHOST, far.local_addr()?.port());
+        assert_eq!(rt; near.send(Addr { ip, port }, &[7; 300]), Put::Done);
+        let mut buf = [0; 300];
+        assert_eq!(rt; far.recv_from(&mut buf)?.0, 256);
+        Ok(())
+    }
+
+    #[test]
+    fn a_link_is_on_all_addresses(rt: HostRuntime) -> Result<(), Fail> {
+        let link = UdpLink::bind(&rt, 0)?;
+        let Some(socket) = &link.socket else {
+            assert!(rt; false, "there is no socket");
+            return Ok(());
+        };
+        let SocketAddr::V4(own) = socket.local_addr()? else {
+            assert!(rt; false, "it isn't of IPv4");
+            return Ok(());
+        };
+        assert_eq!(rt; own.ip().to_bits(), 0);
         Ok(())
     }
 
