@@ -119,8 +119,24 @@ fn recv_front(socket: &UdpSocket) -> Receipt
         Ok((count, SocketAddr::V4(from))) => {
             Receipt::got(addr_of(&from), Datagram::from_slice(&buf[..count]))
         }
-        Err(error) if is_time_over(&error) => Receipt::Quiet,
-        _ => Receipt::Failed,
+        Ok((_, SocketAddr::V6(_))) => Receipt::Failed,
+        Err(error) => receipt_without(&error),
+    }
+}
+
+/// What a receive gives where no datagram came: it is quiet just where its time was over.
+fn receipt_without(error: &io::Error) -> Receipt
+    ensures fits { ReceiptFits result }
+    ensures quiet { result ≡ Receipt.Quiet → (error_kind error.now ≡ ErrorKind.WouldBlock)
+        ⊎ (error_kind error.now ≡ ErrorKind.TimedOut) }
+    ensures failed { result ≢ Receipt.Quiet → (result ≡ Receipt.Failed)
+        × (error_kind error.now ≢ ErrorKind.WouldBlock)
+        × (error_kind error.now ≢ ErrorKind.TimedOut) }
+{
+    if is_time_over(error) {
+        Receipt::Quiet
+    } else {
+        Receipt::Failed
     }
 }
 
