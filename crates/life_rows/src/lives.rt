@@ -17,7 +17,7 @@ use std::process::Abort;
 use std::test::Fail;
 
 /// 1 January 2020, in ticks.
-const R0: i64 = 132_223_104_000_000_000;
+pub(crate) const R0: i64 = 132_223_104_000_000_000;
 
 /// From one turn to the next: 1,024 seconds.
 const TURN: i64 = 10_240_000_000;
