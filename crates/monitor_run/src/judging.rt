@@ -2,16 +2,15 @@
 ghost use Rattle.std.specs.Prelude.{◌≡◌};
 ghost use Rattle.base_specs.specs.Time.{IsReading};
 ghost use Rattle.ntp_wire.specs.Stamp.{IsInReach};
-ghost use Rattle.time_machine.specs.Verdict.{is_bad_mode, is_bad_stratum};
 ghost use Rattle.monitor_run.specs.Asking.{finding_by};
 ghost use Rattle.monitor_run.specs.Progress.{HeardFits};
 ghost use Rattle.monitor_run.specs.Finding.{finding_of, finding_of_times, is_bad_length, is_bad_source, is_other_stamp};
 
 use crate::asking::{Ask, Heard};
 use crate::finding::{Finding, Word};
-use crate::times::{delay_of, has_bad_times, offset_of};
 use edge_traits::Addr;
-use ntp_wire::{HEADER_LEN, Header, Stamp, read_header, to_ticks};
+use ntp_wire::{HEADER_LEN, Stamp, read_header, to_ticks};
+use time_machine::{delay_of, has_bad_times, is_bad_mode, is_bad_stratum, is_same_addr, offset_of};
 
 impl Ask {
     /// What is found by it of the computer at the address that was asked.
@@ -64,21 +63,7 @@ fn is_bad_length(bytes: &[u8]) -> bool
 fn is_bad_source(asked: Addr, from: Addr) -> bool
     ensures { result ≡ is_bad_source asked from }
 {
-    from.ip != asked.ip || from.port != asked.port
-}
-
-/// Whether the sender is no server.
-fn is_bad_mode(header: &Header) -> bool
-    ensures { result ≡ is_bad_mode header.now.mode }
-{
-    header.mode != 4
-}
-
-/// Whether the sender's clock isn't synchronized.
-fn is_bad_stratum(header: &Header) -> bool
-    ensures { result ≡ is_bad_stratum header.now.leap header.now.stratum }
-{
-    header.stratum < 1 || header.stratum > 15 || header.leap == 3
+    !is_same_addr(from, asked)
 }
 
 /// Whether the timestamp that was brought back isn't the one that was sent.

@@ -19,7 +19,6 @@ mod judging;
 mod line;
 mod request;
 mod run;
-mod times;
 mod why;
 
 pub use partner_pick::{Directory, Entry};

@@ -1,25 +1,10 @@
--- Times of a reply, in signed numbers.
-use Rattle.std.proofs.Common.{◌≡◌, ℕ, zero, suc, neg_ℤ, ◌*◌, ◌<◌, ◌/◌, Bool, true, false, ◌&&◌, cond, List, [], ◌∷◌, Option, Some, refl, arith, ℤ, pos, negsuc, ◌+ℤ◌, ◌≤ℤ◌, unsigned_abs, find}
-use Rattle.std.specs.Prelude.{int_lt, int_le, int_div}
+-- The request that a timestamp names, and the window in which it is answered.
+use Rattle.std.proofs.Common.{◌≡◌, Bool, true, false, ◌&&◌, cond, List, [], ◌∷◌, Option, Some, refl, arith, ℤ, pos, ◌+ℤ◌, ◌≤ℤ◌, find}
+use Rattle.std.specs.Prelude.{int_le}
 use Rattle.std.proofs.lemmas.Int.{ints}
 use Rattle.time_machine.specs.declared.outcome.Request.{Request}
 use Rattle.ntp_wire.specs.declared.stamp.Stamp.{Stamp}
 use Rattle.time_machine.specs.Verdict.{is_answered}
-
-pub not_below : (a b : ℤ) → b ≤ℤ a → int_lt a b ≡ false
-not_below a b h = grind (arith, ints)
-
--- half of a number of at most 2 * k is one of at most k
-half_amount : (n k : ℕ) → n < 2 * k → n / 2 < k
-half_amount n k h = omega arith
-
-abs-neg : (n : ℕ) → unsigned_abs (neg_ℤ (pos n)) ≡ n
-abs-neg zero = refl
-abs-neg (suc n) = refl
-
-pub half_small : (z : ℤ) (k : ℕ) → unsigned_abs z < 2 * k → unsigned_abs (int_div z (pos 2)) < k
-half_small (pos n) k h = half_amount n k h
-half_small (negsuc n) k h = rw (abs-neg (suc n / 2)) (half_amount (suc n) k h)
 
 found : {A : Type 0} (test : A → Bool) (y x : A) (rest : Option A) → (rest ≡ Some x → test x ≡ true) → (b : Bool) → test y ≡ b → cond b (Some y) rest ≡ Some x → test x ≡ true
 found test y x rest later true t e = cc

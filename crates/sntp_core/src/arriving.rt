@@ -3,17 +3,21 @@ ghost use Rattle.std.specs.Prelude.{◌≡◌, ◌<◌, ◌^◌, ◌≤ℤ◌, �
 ghost use Rattle.std.specs.Option.{option_map_or};
 ghost use Rattle.base_specs.specs.Time.{IsReading};
 ghost use Rattle.ntp_wire.specs.Stamp.{IsInReach};
-ghost use Rattle.time_machine.specs.Verdict.{is_answered, is_same_addr, is_bad_mode, is_bad_source, is_bad_stratum};
+ghost use Rattle.time_machine.specs.Told.{base_moved};
+ghost use Rattle.time_machine.specs.Verdict.{is_answered, is_bad_source};
 ghost use Rattle.sntp_core.specs.Packets.{is_tail_of, names_another, carries, carries_either};
+ghost use Rattle.sntp_core.specs.Ranges.{IsBase};
 
 use crate::Member;
-use crate::times::{base_moved, has_bad_times, offset_of};
 use edge_traits::Addr;
 use key_book::Account;
 use ms_auth::{Kind, Packet, Tail, check, read_packet};
 use ntp_wire::{Header, Stamp, to_ticks};
 use phase_rule::{Judged, judge, next_poll};
-use time_machine::{How, Outcome, Reason, Request};
+use time_machine::{
+    How, Outcome, Reason, Request, has_bad_times, is_bad_mode, is_bad_stratum, is_same_addr,
+    offset_of,
+};
 
 /// How long a request can be answered, in ticks: ten seconds.
 const WINDOW: i64 = 100_000_000;
@@ -83,9 +87,9 @@ impl Member {
             Outcome::Refused(Reason::BadLength)
         } else if !self.is_from_partner(from) {
             Outcome::Refused(Reason::BadSource)
-        } else if has_bad_mode(&packet.header) {
+        } else if is_bad_mode(&packet.header) {
             Outcome::Refused(Reason::BadMode)
-        } else if has_bad_stratum(&packet.header) {
+        } else if is_bad_stratum(&packet.header) {
             Outcome::Refused(Reason::BadStratum)
         } else {
             self.server_verdict(now, packet)
@@ -186,13 +190,6 @@ fn is_answered(request: &Request, now: i64, stamp: Stamp) -> bool
         && now - WINDOW <= request.at
 }
 
-/// Whether address and port are the same.
-fn is_same_addr(a: Addr, b: Addr) -> bool
-    ensures { result ≡ is_same_addr a b }
-{
-    a.ip == b.ip && a.port == b.port
-}
-
 /// Whether the tail is that of a message of this kind.
 fn is_tail_of(kind: Kind, tail: &Tail) -> bool
     ensures { result ≡ is_tail_of kind tail.now }
@@ -202,20 +199,6 @@ fn is_tail_of(kind: Kind, tail: &Tail) -> bool
         (Kind::Extended, Tail::Ext120 { .. }) => true,
         _ => false,
     }
-}
-
-/// Whether the message is not a server's.
-fn has_bad_mode(header: &Header) -> bool
-    ensures { result ≡ is_bad_mode header.now.mode }
-{
-    header.mode != 4
-}
-
-/// Whether the sender's clock isn't synchronized.
-fn has_bad_stratum(header: &Header) -> bool
-    ensures { result ≡ is_bad_stratum header.now.leap header.now.stratum }
-{
-    header.stratum < 1 || header.stratum > 15 || header.leap == 3
 }
 
 /// Whether the tail names another account, or another digest than the one of this profile.
@@ -255,4 +238,17 @@ fn carries(packet: &Packet, key: &[u8; 16]) -> bool
     ensures { result ≡ carries key.now packet.now }
 {
     check(packet, key)
+}
+
+/// The reading after a correction: a step moves the clock at once, a slew bit by bit.
+pub(crate) fn base_moved(now: i64, offset: i64, how: How) -> i64
+    requires now { IsReading now }
+    requires small { unsigned_abs offset < 10 ^ 17 }
+    ensures value { result ≡ base_moved now offset how }
+    ensures base { IsBase result }
+{
+    match how {
+        How::Step => now + offset,
+        How::Slew => now,
+    }
 }

@@ -13,8 +13,8 @@
 //! member then stands for the longer one. A refused arrival leaves the member as it was, whatever happened before.
 //!
 //! The files: `member.rt` (what is kept, and which part takes an event), `sending.rt` (a Life, a Tick, a Resync),
-//! `arriving.rt` (an Arrive) with `times.rt` (the four times), and `report.rt` (the lines). `specs/Packets.antt` and
-//! `specs/Ranges.antt` belong to the private part.
+//! `arriving.rt` (an Arrive), and `report.rt` (the lines). `specs/Packets.antt` and `specs/Ranges.antt` belong to the
+//! private part.
 #![tactic(auto)]
 
 mod arriving;
@@ -24,7 +24,6 @@ mod report;
 mod sending;
 #[cfg(test)]
 mod tests;
-mod times;
 
 pub use laws::laws_of_members;
 pub use line_text::LineText;

@@ -3,6 +3,7 @@ pub mod Answered
 pub mod Counting
 pub mod Earlier
 pub mod Gathers
+mod Halves
 pub mod Joins
 pub mod Lists
 pub mod Open

@@ -23,8 +23,12 @@ mod conf;
 mod laws;
 mod outcome;
 mod partners;
+mod sender;
+mod times;
 
 pub use conf::Conf;
 pub use laws::{laws_of_histories, laws_of_positions};
 pub use outcome::{How, Outcome, Reason, Request};
 pub use partners::Partners;
+pub use sender::{is_bad_mode, is_bad_stratum, is_same_addr};
+pub use times::{delay_of, has_bad_times, offset_of};

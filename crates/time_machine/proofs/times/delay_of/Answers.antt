@@ -1,6 +1,6 @@
 use Rattle.std.proofs.Common.{arith, FitsSigned, w64, ◌-ℤ◌, refl}
 use Rattle.std.proofs.lemmas.Int.{ints, to_z-of_z}
-use Rattle.monitor_run.proofs.times.delay_of.Goals as goal
+use Rattle.time_machine.proofs.times.delay_of.Goals as goal
 
 pub returns : goal.returns
 returns c =
