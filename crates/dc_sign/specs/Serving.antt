@@ -30,6 +30,7 @@ pub record Seen : Type 0 where
   pub clock : Option ClockTold
   pub clock_faults : ℕ
 
+-- these four put together
 abbrev pub seen : Option LinkTold → ℕ → Option ClockTold → ℕ → Seen
 seen link link_faults clock clock_faults = record { link = link; link_faults = link_faults; clock = clock; clock_faults = clock_faults }
 
@@ -81,20 +82,25 @@ IsTurnOf accounts turn (outcome.Refused reason) = IsRefused accounts turn reason
 IsTurnOf accounts turn outcome.Quiet = IsIdle turn receipt.Quiet
 IsTurnOf accounts turn outcome.Lost = IsIdle turn receipt.Failed
 
+-- the turn is one of its own outcome
 abbrev pub IsTurn : List Account → Turn → Type 0
 IsTurn accounts turn = IsTurnOf accounts turn turn.outcome
 
 -- ---- Turns, one after the other
 
+-- the receipts of turns, one each
 abbrev pub receipts_of : List Turn → List Receipt
 receipts_of turns = map (λ (turn : Turn). turn.receipt) turns
 
+-- the readings of turns, one after the other
 abbrev pub readings_of : List Turn → List ℤ
 readings_of turns = flat_map (λ (turn : Turn). turn.readings) turns
 
+-- the sends tried in turns, one after the other
 abbrev pub sends_of : List Turn → List Tried
 sends_of turns = flat_map (λ (turn : Turn). turn.sends) turns
 
+-- the outcomes of turns, one each
 abbrev pub outcomes_of : List Turn → List TurnOutcome
 outcomes_of turns = map (λ (turn : Turn). turn.outcome) turns
 

@@ -8,6 +8,7 @@ pub record Seen : Type 0 where
   pub written : Option (List ℕ)
   pub write_faults : ℕ
 
+-- these four put together
 abbrev pub seen : Option (List ℕ) → ℕ → Option (List ℕ) → ℕ → Seen
 seen left read_faults written write_faults =
     record { left = left; read_faults = read_faults; written = written; write_faults = write_faults }

@@ -5,6 +5,7 @@ use Rattle.run_deeds.specs.declared.life_end.LifeEnd.{LifeEnd}
 use Rattle.run_deeds.specs.declared.life_end.Why.{Why}
 use Rattle.run_deeds.specs.declared.life_end.Why.TheVariants.{Done}
 
+-- the line of the link: how many receipts were quiet, and how many receives and sends failed
 abbrev pub link_line : (quiet lost : ℕ) → List ℕ
 link_line quiet lost = codes "link quiet=" ++ decimal quiet ++ codes " lost=" ++ decimal lost ++ 10 ∷ []
 

@@ -37,10 +37,12 @@ pub record Seen : Type 0 where
   pub link_faults : ℕ
   pub faults : Faults
 
+-- these five put together
 abbrev pub faults : (clock entropy disk capture out : ℕ) → Faults
 faults clock entropy disk capture out =
     record { clock = clock; entropy = entropy; disk = disk; capture = capture; out = out }
 
+-- these seven put together
 abbrev pub seen : Option LinkTold → Option ClockTold → Option (List ℕ) → Option (List ℕ) → Option (List ℕ) → ℕ → Faults → Seen
 seen link clock words capture out link_faults faults =
     record { link = link; clock = clock; words = words; capture = capture; out = out; link_faults = link_faults; faults = faults }
@@ -121,15 +123,19 @@ IsBeforeTick _ _ = ⊥
 abbrev pub ClockFailed : Faults → Faults → Type 0
 ClockFailed before now = Fails before.clock now.clock × (now ≡ record before { clock = now.clock })
 
+-- the same of the entropy
 abbrev pub EntropyFailed : Faults → Faults → Type 0
 EntropyFailed before now = Fails before.entropy now.entropy × (now ≡ record before { entropy = now.entropy })
 
+-- the same of the disk
 abbrev pub DiskFailed : Faults → Faults → Type 0
 DiskFailed before now = Fails before.disk now.disk × (now ≡ record before { disk = now.disk })
 
+-- the same of the capture
 abbrev pub CaptureFailed : Faults → Faults → Type 0
 CaptureFailed before now = Fails before.capture now.capture × (now ≡ record before { capture = now.capture })
 
+-- the same of the output
 abbrev pub OutFailed : Faults → Faults → Type 0
 OutFailed before now = Fails before.out now.out × (now ≡ record before { out = now.out })
 

@@ -6,6 +6,7 @@ use Rattle.edge_traits.specs.declared.sink.Put.TheVariants.{Failed}
 use Rattle.slot_disk.specs.declared.file.FileDisk.{FileDisk}
 use Rattle.slot_disk.specs.Told.{DiskTold, IsDisk}
 
+-- the count of its calls
 abbrev pub calls_of : FileDisk → ℕ
 calls_of disk = disk.calls
 

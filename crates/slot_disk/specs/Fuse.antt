@@ -14,6 +14,7 @@ disk_of fuse = fuse.disk
 abbrev pub fuse_tells : FuseDisk → DiskTold
 fuse_tells fuse = memory_tells (disk_of fuse)
 
+-- how many calls of that disk have failed
 abbrev pub fuse_faults : FuseDisk → ℕ
 fuse_faults fuse = memory_faults (disk_of fuse)
 

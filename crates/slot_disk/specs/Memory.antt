@@ -23,6 +23,7 @@ tells_of now past beyond = record {
   left_since = λ t image. IsImage now image ⊎ HadImage (drop t past) image;
 }
 
+-- what a disk in memory tells now
 abbrev pub memory_tells : MemoryDisk → DiskTold
 memory_tells m = tells_of m.state m.past.items m.beyond
 
@@ -35,6 +36,7 @@ pub record Plan : Type 0 where
   pub fails : List ℕ
   pub room : ℕ
 
+-- the plan that a disk in memory goes by
 abbrev pub plan_of : MemoryDisk → Plan
 plan_of m = record { fails = m.fails.items; room = m.room }
 

@@ -7,6 +7,7 @@ use Rattle.byteorder.specs.Endian.{big_from}
 abbrev pub HasOpenGate : List ℕ → ℕ → Type 0
 HasOpenGate image at = slice_index image at ≡ 165
 
+-- and closed at every other byte
 abbrev pub HasClosedGate : List ℕ → ℕ → Type 0
 HasClosedGate image at = slice_index image at ≢ 165
 

@@ -11,6 +11,7 @@ place Lowest = 0
 place Middle = 64
 place Highest = 128
 
+-- it is so of all three slots
 abbrev pub EachSlot : (Slot → Type 0) → Type 0
 EachSlot P = P Lowest × P Middle × P Highest
 
@@ -27,6 +28,7 @@ pub record IsNewest (image : List ℕ) (s : Slot) : Type 0 where
   pub lowest : EachSlot (λ t. place t < place s → HasOpenGate image (place t)
       → mark_at image (place t) < mark_at image (place s))
 
+-- the gates of all three slots are closed
 abbrev pub NoneOpen : List ℕ → Type 0
 NoneOpen image = EachSlot (λ t. HasClosedGate image (place t))
 

@@ -14,6 +14,7 @@ pub record IsShut (s : Slot) (old new : List ℕ) : Type 0 where
   pub closed : HasOpenGate old (place s) → Holds (place s) (0 ∷ []) old new
   pub left : HasClosedGate old (place s) → new ≡ old
 
+-- the same where the content is told: both before and after, or never
 abbrev pub ShutContent : Slot → Option (List ℕ) → Option (List ℕ) → Type 0
 ShutContent s None None = ⊤
 ShutContent s (Some old) None = ⊥
@@ -25,6 +26,7 @@ pub record IsLoaded (k : Keeper) (old new : List ℕ) : Type 0 where
   pub target : IsTarget old k.target
   pub shut : IsShut k.target old new
 
+-- the same where the content is told
 abbrev pub LoadedContent : Keeper → Option (List ℕ) → Option (List ℕ) → Type 0
 LoadedContent k None None = ⊤
 LoadedContent k (Some old) None = ⊥
@@ -41,6 +43,7 @@ pub record IsReserved (k : Keeper) (mark : ℕ) (old new : List ℕ) : Type 0 wh
   pub rest : (at : ℕ) → (at < place k.target) ⊎ (place k.target + 8 ≤ at)
       → (k.third_open ≡ true → at ≢ place k.third) → slice_index new at ≡ slice_index old at
 
+-- the same where the content is told
 abbrev pub ReservedContent : Keeper → ℕ → Option (List ℕ) → Option (List ℕ) → Type 0
 ReservedContent k mark None None = ⊤
 ReservedContent k mark (Some old) None = ⊥
