@@ -18,6 +18,7 @@ abbrev pub DrawnBy : Result ℕ Why → Option (List ℕ) → Option (List ℕ) 
 DrawnBy (Ok word) old new before now = (word < 2 ^ 32) × Added old new (word ∷ []) × (now ≡ before)
 DrawnBy (Err why) old new before now = (why ≡ EntropyFault) × (new ≡ old) × Fails before now
 
+-- a failed write is a fault of the sink
 abbrev pub ended_by : Put → Result (Unit {0}) Why
 ended_by write.Done = Ok tt
 ended_by write.Failed = Err SinkFault

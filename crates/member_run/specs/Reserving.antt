@@ -11,6 +11,7 @@ use Rattle.stamp_keep.specs.Slots.{HasOtherVersion}
 use Rattle.run_deeds.specs.declared.life_end.Why.{Why}
 use Rattle.run_deeds.specs.declared.life_end.Why.TheVariants.{Done, DiskFault, BadVersion, StampsSpent, ClockFault, EntropyFault, SinkFault}
 
+-- why a run ends at a fault of the keeper
 abbrev pub why_of_fault : KeepFault → Why
 why_of_fault keep.DiskFault = DiskFault
 why_of_fault keep.BadVersion = BadVersion
@@ -26,6 +27,7 @@ BlamedBy ClockFault before now = ⊥
 BlamedBy EntropyFault before now = ⊥
 BlamedBy SinkFault before now = ⊥
 
+-- no call of the disk failed where there is a value, and at a fault it is as that fault says
 abbrev pub DiskBlamed : {A : Type 0} → Result A Why → ℕ → ℕ → Type 0
 DiskBlamed (Ok given) before now = now ≡ before
 DiskBlamed (Err why) before now = BlamedBy why before now
@@ -40,6 +42,7 @@ RefusedBy ClockFault disk = ⊥
 RefusedBy EntropyFault disk = ⊥
 RefusedBy SinkFault disk = ⊥
 
+-- the content can be loaded where a keeper is, and at a fault it is as that fault says
 abbrev pub LoadedBy : Result Keeper Why → DiskTold → Type 0
 LoadedBy (Ok keeper) disk = IfSome disk.content IsLoadable
 LoadedBy (Err why) disk = RefusedBy why disk

@@ -29,6 +29,7 @@ pub record HasStopped (conf : Conf) (next : Need) (entry : DiskTold) (before now
   pub stood_for : IfSome entry.content (λ c. stood.mark ≡ mark_of_image c)
   pub runs : Runs conf (Start stood next) next [] before now stood.mark stood.mark (ended Done) (ended Done) why
 
+-- what each answer says of a start
 abbrev pub Begins : Conf → Need → DiskTold → Seen → Seen → Result Running Why → Type 0
 Begins conf next entry before now (Ok running) = HasBegun conf next entry before now running
 Begins conf next entry before now (Err why) = HasStopped conf next entry before now why

@@ -83,6 +83,7 @@ pub record Acts (outcome : Outcome) (link link' : Option LinkTold) (clock clock'
   pub link_failed : FailsTimes (failed_sends tried) before now
   pub counted : new ≡ record old { lost = more old.lost (failed_sends tried) }
 
+-- the numbers after a send that was answered so
 abbrev pub with_put : Put → LifeEnd → LifeEnd
 with_put write.Done end = end
 with_put write.Failed end = with_lost end

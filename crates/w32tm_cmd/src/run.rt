@@ -82,6 +82,22 @@ pub fn w32tm<S: Source, O: Sink, L: Link, C: Clock, D: Disk, E: Entropy>(
           clock = outside.new.clock;
         } }
 
+    // Where the input tells its bytes, they decide.
+    ensures request { let seen = ⟦<Outside<S, O, L, C, D, E> as Tells>⟧.seen in
+        (account : Account) (bytes : List ℕ) → IsSign account (texts words.now.items)
+        → (seen outside.old).left ≡ Some bytes → DecidesBy account bytes result }
+
+    // Where no call failed, the request is answered, or refused for its reason.
+    ensures complete { let seen = ⟦<Outside<S, O, L, C, D, E> as Tells>⟧.seen in
+        (account : Account) (bytes : List ℕ) → IsSign account (texts words.now.items)
+        → (seen outside.old).left ≡ Some bytes → HasNoFault (seen outside.old) (seen outside.new)
+        → refusal_of (account ∷ []) bytes ≡ None → result ≡ Status.Done }
+    ensures complete_refused { let seen = ⟦<Outside<S, O, L, C, D, E> as Tells>⟧.seen in
+        (account : Account) (bytes : List ℕ) (reason : Refusal)
+        → IsSign account (texts words.now.items)
+        → (seen outside.old).left ≡ Some bytes → HasNoFault (seen outside.old) (seen outside.new)
+        → refusal_of (account ∷ []) bytes ≡ Some reason → result ≡ BadRequest reason }
+
     // What `/show` writes, for each answer. It touches the output alone, and nothing where it refuses.
     ensures show { let seen = ⟦<Outside<S, O, L, C, D, E> as Tells>⟧.seen in
         (bytes : List ℕ) → IsShow bytes (texts words.now.items)
@@ -137,22 +153,6 @@ pub fn w32tm<S: Source, O: Sink, L: Link, C: Clock, D: Disk, E: Entropy>(
         IsReplay (texts words.now.items) → result ≡ Status.ReadFault
         → ¬ Rose (seen outside.old).read_faults (seen outside.new).read_faults
         → outside.new ≡ record outside.old { config = outside.new.config } }
-
-    // Where the input tells its bytes, they decide on `/sign`.
-    ensures request { let seen = ⟦<Outside<S, O, L, C, D, E> as Tells>⟧.seen in
-        (account : Account) (bytes : List ℕ) → IsSign account (texts words.now.items)
-        → (seen outside.old).left ≡ Some bytes → DecidesBy account bytes result }
-
-    // Where no call of `/sign` failed, the request is answered, or refused for its reason.
-    ensures complete { let seen = ⟦<Outside<S, O, L, C, D, E> as Tells>⟧.seen in
-        (account : Account) (bytes : List ℕ) → IsSign account (texts words.now.items)
-        → (seen outside.old).left ≡ Some bytes → HasNoFault (seen outside.old) (seen outside.new)
-        → refusal_of (account ∷ []) bytes ≡ None → result ≡ Status.Done }
-    ensures complete_refused { let seen = ⟦<Outside<S, O, L, C, D, E> as Tells>⟧.seen in
-        (account : Account) (bytes : List ℕ) (reason : Refusal)
-        → IsSign account (texts words.now.items)
-        → (seen outside.old).left ≡ Some bytes → HasNoFault (seen outside.old) (seen outside.new)
-        → refusal_of (account ∷ []) bytes ≡ Some reason → result ≡ BadRequest reason }
 
     // No count falls, and each fault has its cause.
     ensures counts { let seen = ⟦<Outside<S, O, L, C, D, E> as Tells>⟧.seen in
