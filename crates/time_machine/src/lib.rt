@@ -3,8 +3,8 @@
 //! An event of `capture_fmt` is a Life (a run began, which sends the counts above a mark), a Tick (a turn began), a
 //! Resync (a request was asked for) or an Arrive (a datagram came). `specs/` says what each event of a history leads
 //! to: nothing, a request to the present partner, a correction of the clock by a reply, or a refusal for the first
-//! reason that applies. There is no member here and no code but types: settings ([`Conf`], [`Partners`]), outcomes,
-//! and the laws.
+//! reason that applies. There is no member here. Of code there are types (settings, [`Conf`] and [`Partners`], and
+//! outcomes), the laws, and what members and `/monitor` both compute of a reply, in `times.rt` and `sender.rt`.
 //!
 //! It stands on `ms_auth` and `ntp_wire` for messages, on `key_book` for accounts, on `phase_rule` for limits and on
 //! `capture_fmt` for events. The layer above may rely on [`laws_of_histories`]: counts rise, no two replies are accepted
