@@ -166,3 +166,18 @@ fn keeps_its_bytes_in_a_file(rt: HostRuntime) -> Result<(), Fail> {
     fs::remove_dir_all(&rt, FOLDER)?;
     Ok(())
 }
+
+#[test]
+fn a_short_file_is_filled(rt: HostRuntime) -> Result<(), Fail> {
+    let _ = fs::remove_dir_all(&rt, "slot_disk_short");
+    fs::create_dir(&rt, "slot_disk_short")?;
+    fs::write(&rt, "slot_disk_short/disk", &[3u8; 5])?;
+    // It can be read whole before anything was written to it.
+    let mut disk = FileDisk::open(&rt, "slot_disk_short/disk");
+    assert_eq!(rt; make(&mut disk, Call::Read), Put::Done);
+    let bytes = fs::read(&rt, "slot_disk_short/disk")?;
+    let ends = (bytes.len(), bytes.get(4), bytes.get(5), bytes.last());
+    assert_eq!(rt; ends, (256, Some(&3), Some(&0), Some(&0)));
+    fs::remove_dir_all(&rt, "slot_disk_short")?;
+    Ok(())
+}
