@@ -130,14 +130,7 @@ if command -v strace >/dev/null; then
     run strace 68 1000
     cp "$folder/calls" "$folder/fewer"
     run strace 68 3000
-    awk 'NF < 5 || $4 !~ /^[0-9]+$/ || $NF == "total" { next }
-        FNR == NR { calls[$NF] -= $4; next }
-        { calls[$NF] += $4 }
-        END {
-            printf "system calls of 2000 requests:"
-            for (name in calls) if (calls[name] != 0) printf " %s %d", name, calls[name]
-            print ""
-        }' "$folder/fewer" "$folder/calls"
+    awk -v what="2000 requests" -f bench/calls.awk "$folder/fewer" "$folder/calls"
 else
     echo "system calls: skipped, no strace"
 fi

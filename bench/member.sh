@@ -142,14 +142,7 @@ if command -v strace >/dev/null; then
         LD_PRELOAD= strace -qq -c -o "$folder/calls$n" -E LD_PRELOAD="$folder/clock.so" "${words[@]}" >"$memory/report"
         stop_dc
     done
-    awk 'NF < 5 || $4 !~ /^[0-9]+$/ || $NF == "total" { next }
-        FNR == NR { calls[$NF] -= $4; next }
-        { calls[$NF] += $4 }
-        END {
-            printf "system calls of 2000 turns:"
-            for (name in calls) if (calls[name] != 0) printf " %s %d", name, calls[name]
-            print ""
-        }' "$folder/calls1000" "$folder/calls3000"
+    awk -v what="2000 turns" -f bench/calls.awk "$folder/calls1000" "$folder/calls3000"
 else
     echo "system calls: skipped, no strace"
 fi
