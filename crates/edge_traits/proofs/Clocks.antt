@@ -1,15 +1,43 @@
 -- What a clock tells over several calls.
-use Rattle.std.proofs.Common.{ℤ, List, [], ◌++◌, Option, Some, None, sym, ap, append_assoc}
-use Rattle.std.proofs.lemmas.List.{append-nil}
-use Rattle.base_specs.proofs.Telling.{changed_more, changed_as}
-use Rattle.edge_traits.specs.Clock.{ClockTold, GaveReadings}
+use Rattle.std.proofs.Common.{◌≡◌, ℤ, List, [], ◌∷◌, ◌++◌, map, Option, refl, sym, ap, subst}
+use Rattle.std.proofs.lemmas.Grind.{flat_map-append}
+use Rattle.std.proofs.lemmas.List.{map-append}
+use Rattle.base_specs.specs.Told.{Grew}
+use Rattle.base_specs.proofs.Telling.{grew_more, grew_none}
+use Rattle.edge_traits.specs.declared.clock.Move.{Move}
+use Rattle.edge_traits.specs.Clock.{ClockCall, Correct, GaveReadings, Read, corrections_by, moves_among, readings_among, readings_by}
 
 -- no reading was given
-pub gave_none : (told : Option ClockTold) → GaveReadings told told []
-gave_none None = tt
-gave_none (Some told) = ap (λ (l : List ℤ). record told { readings = l }) (sym (append-nil told.readings))
+pub gave_none : (told : Option (List ClockCall)) → GaveReadings told told []
+gave_none told = grew_none told
 
 -- readings that were given one after the other
-pub gave_more : (old mid new : Option ClockTold) (xs ys : List ℤ) → GaveReadings old mid xs → GaveReadings mid new ys → GaveReadings old new (xs ++ ys)
+pub gave_more : (old mid new : Option (List ClockCall)) (xs ys : List ℤ) → GaveReadings old mid xs → GaveReadings mid new ys → GaveReadings old new (xs ++ ys)
 gave_more old mid new xs ys first next =
-    changed_as _ _ old new (λ (t : ClockTold). ap (λ (l : List ℤ). record t { readings = l }) (append_assoc t.readings xs ys)) (changed_more _ _ old mid new first next)
+    subst (λ (calls : List ClockCall). Grew old new calls) (sym (map-append Read xs ys)) (grew_more old mid new (map Read xs) (map Read ys) first next)
+
+-- the readings given in one part of a run, and those in the next
+pub readings_among-append : (xs ys : List ClockCall) → readings_among (xs ++ ys) ≡ readings_among xs ++ readings_among ys
+readings_among-append xs ys = flat_map-append readings_by xs ys
+
+-- and so with the corrections
+pub moves_among-append : (xs ys : List ClockCall) → moves_among (xs ++ ys) ≡ moves_among xs ++ moves_among ys
+moves_among-append xs ys = flat_map-append corrections_by xs ys
+
+-- calls that are readings alone
+pub readings_among-readings : (given : List ℤ) → readings_among (map Read given) ≡ given
+readings_among-readings [] = refl
+readings_among-readings (t ∷ given) = ap (λ (l : List ℤ). t ∷ l) (readings_among-readings given)
+
+pub moves_among-readings : (given : List ℤ) → moves_among (map Read given) ≡ []
+moves_among-readings [] = refl
+moves_among-readings (t ∷ given) = moves_among-readings given
+
+-- calls that are corrections alone
+pub readings_among-moves : (made : List Move) → readings_among (map Correct made) ≡ []
+readings_among-moves [] = refl
+readings_among-moves (m ∷ made) = readings_among-moves made
+
+pub moves_among-moves : (made : List Move) → moves_among (map Correct made) ≡ made
+moves_among-moves [] = refl
+moves_among-moves (m ∷ made) = ap (λ (l : List Move). m ∷ l) (moves_among-moves made)

@@ -1,31 +1,17 @@
 -- What a link tells and gives, and what a receive does to the count of faults.
-use Rattle.std.specs.Prelude.{◌≡◌, ◌<◌, ◌≤◌, ◌^◌, ℕ, Bool, true, false, List, ◌++◌, All, length, Option, ⊤}
+use Rattle.std.specs.Prelude.{◌≡◌, ◌<◌, ◌≤◌, ◌^◌, ℕ, Bool, true, false, List, [], ◌∷◌, All, length, flat_map, ⊤}
 use Rattle.std.specs.List.{count_by}
 use Rattle.base_specs.specs.Counts.{Fails}
-use Rattle.base_specs.specs.Told.{Changed}
 use Rattle.edge_traits.specs.declared.link.Receipt.{Receipt}
 use Rattle.edge_traits.specs.declared.link.Receipt.TheVariants as receipt
 use Rattle.edge_traits.specs.declared.link.Tried.{Tried}
 use Rattle.edge_traits.specs.declared.sink.Put.{Put}
 use Rattle.edge_traits.specs.declared.sink.Put.TheVariants as write
 
--- the sends that were tried on a link, and the receipts that it gave
-pub record LinkTold : Type 0 where
-  pub sends : List Tried
-  pub receipts : List Receipt
-
--- these sends were tried, and nothing was received
-abbrev pub TriedSends : Option LinkTold → Option LinkTold → List Tried → Type 0
-TriedSends old new tried = Changed (λ (told : LinkTold). record told { sends = told.sends ++ tried }) old new
-
--- these receipts were given, and nothing was sent
-abbrev pub GaveReceipts : Option LinkTold → Option LinkTold → List Receipt → Type 0
-GaveReceipts old new given = Changed (λ (told : LinkTold). record told { receipts = told.receipts ++ given }) old new
-
--- these sends were tried, and these receipts were given
-abbrev pub Exchanged : Option LinkTold → Option LinkTold → List Tried → List Receipt → Type 0
-Exchanged old new tried given =
-    Changed (λ (told : LinkTold). record { sends = told.sends ++ tried; receipts = told.receipts ++ given }) old new
+-- a call of a link: a send that was tried, or a receive with what it gave
+pub data LinkCall : Type 0 where
+  Send : (tried : Tried) → LinkCall
+  Receive : (receipt : Receipt) → LinkCall
 
 -- an address, a port, and at most 256 bytes
 abbrev pub ReceiptFits : Receipt → Type 0
@@ -51,10 +37,29 @@ abbrev pub is_failed_put : Put → Bool
 is_failed_put write.Done = false
 is_failed_put write.Failed = true
 
--- how many of these receives failed
-abbrev pub failed_receipts : List Receipt → ℕ
-failed_receipts given = count_by is_failed_receipt given
+-- whether a call failed
+abbrev pub is_failed_call : LinkCall → Bool
+is_failed_call (Send tried) = is_failed_put tried.put
+is_failed_call (Receive receipt) = is_failed_receipt receipt
 
--- how many of these sends failed
-abbrev pub failed_sends : List Tried → ℕ
-failed_sends tried = count_by (λ (t : Tried). is_failed_put t.put) tried
+-- how many of these calls failed
+abbrev pub failed_calls : List LinkCall → ℕ
+failed_calls calls = count_by is_failed_call calls
+
+-- the send that a call tried, if it is one
+abbrev pub sends_by : LinkCall → List Tried
+sends_by (Send tried) = tried ∷ []
+sends_by (Receive receipt) = []
+
+-- the receipt that a call gave, if it is a receive
+abbrev pub receipts_by : LinkCall → List Receipt
+receipts_by (Send tried) = []
+receipts_by (Receive receipt) = receipt ∷ []
+
+-- the sends tried among these calls, in their order
+abbrev pub sends_among : List LinkCall → List Tried
+sends_among calls = flat_map sends_by calls
+
+-- the receipts given among these calls, in their order
+abbrev pub receipts_among : List LinkCall → List Receipt
+receipts_among calls = flat_map receipts_by calls

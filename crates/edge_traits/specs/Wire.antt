@@ -1,5 +1,5 @@
 -- What a wire tells and gives, and what its answers do to its counts of faults.
-use Rattle.std.specs.Prelude.{◌≡◌, ◌≤◌, ◌⊎◌, ℕ, Bool, true, false, List, [], ◌∷◌, ◌++◌, length, take, Option}
+use Rattle.std.specs.Prelude.{◌≡◌, ◌≤◌, ◌⊎◌, ℕ, Bool, true, false, List, [], ◌∷◌, ◌++◌, length, take, flat_map, Option}
 use Rattle.base_specs.specs.Counts.{Fails}
 use Rattle.base_specs.specs.Told.{Grew, LastIs, LastTold}
 use Rattle.edge_traits.specs.declared.sink.Put.{Put}
@@ -9,14 +9,23 @@ use Rattle.edge_traits.specs.declared.source.Take.TheVariants as read
 use Rattle.edge_traits.specs.declared.wire.Opened.{Opened}
 use Rattle.edge_traits.specs.declared.wire.Opened.TheVariants as opened
 
--- The bytes taken of a session, those left of it, and those written to it; and whether a read of it failed, and
--- whether a write of it failed.
+-- what one write added to a session, and how many bytes had been taken of it before
+pub record Written : Type 0 where
+  pub behind : ℕ
+  pub bytes : List ℕ
+
+-- The bytes taken of a session, those left of it, and the writes to it, the oldest first; and whether a read of it
+-- failed, and whether a write of it failed.
 pub record SessionTold : Type 0 where
   pub taken : List ℕ
   pub left : List ℕ
-  pub written : List ℕ
+  pub writes : List Written
   pub read_failed : Bool
   pub write_failed : Bool
+
+-- all bytes that were written to a session
+abbrev pub written_to : SessionTold → List ℕ
+written_to told = flat_map (λ (w : Written). w.bytes) told.writes
 
 -- what was answered to a request for a session, and the session that it opened
 pub data Entry : Type 0 where
@@ -26,7 +35,7 @@ pub data Entry : Type 0 where
 
 -- a session that was just opened, with so much to read
 abbrev pub fresh : List ℕ → SessionTold
-fresh left = record { taken = []; left = left; written = []; read_failed = false; write_failed = false }
+fresh left = record { taken = []; left = left; writes = []; read_failed = false; write_failed = false }
 
 -- each answer is one more entry, and the earlier entries stay
 abbrev pub Opens : Opened → Option (List Entry) → Option (List Entry) → Type 0
@@ -67,14 +76,18 @@ TakesOf bytes before now =
 abbrev pub FailsToTake : SessionTold → SessionTold → Type 0
 FailsToTake before now = now ≡ record before { read_failed = true }
 
--- these bytes were written
+-- these bytes were written, after all that was taken so far
+abbrev pub with_write : List ℕ → SessionTold → SessionTold
+with_write piece told = record told { writes = told.writes ++ record { behind = length told.taken; bytes = piece } ∷ [] }
+
+-- the session has one write more, of this piece
 abbrev pub WritesTo : List ℕ → SessionTold → SessionTold → Type 0
-WritesTo piece before now = now ≡ record before { written = before.written ++ piece }
+WritesTo piece before now = now ≡ with_write piece before
 
 -- a write failed, and some front of the piece was written
 abbrev pub FailsToWrite : List ℕ → SessionTold → SessionTold → Type 0
 FailsToWrite piece before now =
-    (n : ℕ) × (n ≤ length piece) × (now ≡ record before { written = before.written ++ take n piece; write_failed = true })
+    (n : ℕ) × (n ≤ length piece) × (now ≡ record (with_write (take n piece) before) { write_failed = true })
 
 -- A read takes the first of the bytes left of the open session, or it is at the end, or nothing. Where no session is
 -- open it is at the end. Each entry but the last stays.

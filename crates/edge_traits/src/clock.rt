@@ -20,12 +20,13 @@ pub enum Move {
 
 /// A clock that is read, and that can be corrected.
 pub trait Clock {
-    ghost use Rattle.std.specs.Prelude.{◌≡◌, ℕ, [], ◌∷◌, Option};
+    ghost use Rattle.std.specs.Prelude.{◌≡◌, ℕ, List, [], ◌∷◌, Option};
+    ghost use Rattle.base_specs.specs.Told.{Grew};
     ghost use Rattle.edge_traits.specs.declared.clock.Move.{Move};
-    ghost use Rattle.edge_traits.specs.Clock.{ClockTold, MadeMoves, ReadingCounts, Reads};
+    ghost use Rattle.edge_traits.specs.Clock.{ClockCall, Correct, ReadingCounts, Reads};
 
-    /// The readings given and the corrections made, where the clock tells them.
-    ghost told: { Self → Option ClockTold };
+    /// The readings given and the corrections made, the oldest first, where the clock tells them.
+    ghost told: { Self → Option (List ClockCall) };
 
     /// How often a reading has failed.
     ghost faults: { Self → ℕ };
@@ -37,11 +38,11 @@ pub trait Clock {
 
     /// Moves the clock by this many ticks, at once. It can't fail.
     fn step(&mut self, amount: i64)
-        ensures moves { MadeMoves (told self.old) (told self.new) (Move.Step amount ∷ []) }
+        ensures moves { Grew (told self.old) (told self.new) (Correct (Move.Step amount) ∷ []) }
         ensures cause { faults self.new ≡ faults self.old };
 
     /// Moves the clock by this many ticks, bit by bit. It can't fail.
     fn slew(&mut self, amount: i64)
-        ensures moves { MadeMoves (told self.old) (told self.new) (Move.Slew amount ∷ []) }
+        ensures moves { Grew (told self.old) (told self.new) (Correct (Move.Slew amount) ∷ []) }
         ensures cause { faults self.new ≡ faults self.old };
 }

@@ -47,25 +47,26 @@ pub struct Tried {
 
 /// Datagrams that are sent to anyone and received from anyone.
 pub trait Link {
-    ghost use Rattle.std.specs.Prelude.{ℕ, [], ◌∷◌, take, Option};
-    ghost use Rattle.edge_traits.specs.Link.{GaveReceipts, LinkTold, ReceiptCounts, ReceiptFits, TriedSends};
+    ghost use Rattle.std.specs.Prelude.{ℕ, List, [], ◌∷◌, take, Option};
+    ghost use Rattle.base_specs.specs.Told.{Grew};
+    ghost use Rattle.edge_traits.specs.Link.{LinkCall, Receive, ReceiptCounts, ReceiptFits, Send};
     ghost use Rattle.edge_traits.specs.Sink.{PutCounts};
 
-    /// The sends tried and the receipts given, where the link tells them.
-    ghost told: { Self → Option LinkTold };
+    /// Its calls, the oldest first, each with what came of it, where the link tells them.
+    ghost told: { Self → Option (List LinkCall) };
 
     /// How often a send or a receive has failed.
     ghost faults: { Self → ℕ };
 
     /// Sends the first 256 of the bytes to this address.
     fn send(&mut self, to: Addr, bytes: &[u8]) -> Put
-        ensures sends { TriedSends (told self.old) (told self.new)
-            (record { to = to; bytes = take 256 bytes.now; put = result } ∷ []) }
+        ensures sends { Grew (told self.old) (told self.new)
+            (Send (record { to = to; bytes = take 256 bytes.now; put = result }) ∷ []) }
         ensures cause { PutCounts result (faults self.old) (faults self.new) };
 
     /// Takes the next datagram that came.
     fn recv(&mut self) -> Receipt
         ensures fits { ReceiptFits result }
-        ensures gives { GaveReceipts (told self.old) (told self.new) (result ∷ []) }
+        ensures gives { Grew (told self.old) (told self.new) (Receive result ∷ []) }
         ensures cause { ReceiptCounts result (faults self.old) (faults self.new) };
 }
