@@ -2,7 +2,6 @@
 use Rattle.std.specs.Prelude.{◌<◌, ℕ, List, [], ◌∷◌, ◌++◌, length, take, flat_map, ⊤}
 use Rattle.edge_traits.specs.declared.clock.Move.{Move}
 use Rattle.capture_fmt.specs.declared.event.Event.{Event}
-use Rattle.capture_fmt.specs.declared.event.Event.TheVariants.{Tick}
 use Rattle.capture_fmt.specs.Record.{event_bytes}
 use Rattle.time_machine.specs.declared.conf.Conf.{Conf}
 use Rattle.time_machine.specs.declared.outcome.Outcome.{Outcome}
@@ -11,6 +10,7 @@ use Rattle.time_machine.specs.declared.outcome.Reason.{Reason}
 use Rattle.time_machine.specs.Events.{History}
 use Rattle.time_machine.specs.Machine.{outcome_at, posted_by, moves_by, Posted}
 use Rattle.time_machine.specs.Report.{line_of}
+use Rattle.run_deeds.specs.Weaving.{ticks_by}
 
 -- an event is taken, or a line is printed that is not an event's
 pub data Deed : Type 0 where
@@ -67,11 +67,6 @@ reasons_by _ = []
 abbrev pub reasons_in : Conf → History → Deed → List Reason
 reasons_in conf history (Take event) = reasons_by (outcome_at conf history event)
 reasons_in conf history (Print line) = []
-
--- the event, if it is a Tick
-abbrev pub ticks_by : Event → List Event
-ticks_by (Tick now word) = Tick now word ∷ []
-ticks_by _ = []
 
 -- the Tick that is taken, if it is one
 abbrev pub ticks_in : Deed → List Event

@@ -1,22 +1,18 @@
 -- What the devices of a run tell, and what a part of a run was given and did.
-use Rattle.std.specs.Prelude.{◌≡◌, ℕ, ◌+◌, ◌<◌, ℤ, List, ◌++◌, map, Option, ⊤}
+use Rattle.std.specs.Prelude.{◌≡◌, ℕ, ◌<◌, List, map, Option, ⊤}
 use Rattle.std.specs.List.{AllByRecursion}
 use Rattle.base_specs.specs.Counts.{Fails, FailsTimes, Rose}
-use Rattle.base_specs.specs.Told.{Added, Changed}
-use Rattle.edge_traits.specs.declared.clock.Move.{Move}
-use Rattle.edge_traits.specs.declared.link.Receipt.{Receipt}
-use Rattle.edge_traits.specs.declared.link.Tried.{Tried}
-use Rattle.edge_traits.specs.Clock.{ClockTold}
-use Rattle.edge_traits.specs.Link.{Exchanged, LinkTold, failed_receipts, failed_sends}
+use Rattle.base_specs.specs.Told.{Added, Grew}
+use Rattle.edge_traits.specs.Clock.{ClockCall, moves_among}
+use Rattle.edge_traits.specs.Link.{LinkCall, failed_calls, sends_among}
 use Rattle.capture_fmt.specs.declared.event.Event.{Event}
 use Rattle.capture_fmt.specs.declared.event.Event.TheVariants.{Life, Tick, Resync, Arrive}
 use Rattle.capture_fmt.specs.Event.{EventFits}
 use Rattle.time_machine.specs.declared.conf.Conf.{Conf}
 use Rattle.time_machine.specs.Events.{History}
-use Rattle.time_machine.specs.Machine.{Posted}
 use Rattle.run_deeds.specs.declared.life_end.Why.{Why}
 use Rattle.run_deeds.specs.declared.life_end.Why.TheVariants.{Done, DiskFault, BadVersion, StampsSpent, ClockFault, EntropyFault, SinkFault}
-use Rattle.run_deeds.specs.Weaving.{Need, Start, Turns, WordFor, ReceiptNow, ReadingFor, Call, CallReading, CallWord, Round, RoundReading}
+use Rattle.run_deeds.specs.Weaving.{Need, Start, Turns, WordFor, ReceiptNow, ReadingFor, Call, CallReading, CallWord, Round, RoundReading, Act, posted_of}
 use Rattle.run_deeds.specs.Deeds.{Deed, Take, Print, Ending, Whole, NoRecord, NoLine, HasLine, IsWhole, along, posted_in, moves_in, all_done, events_given, captured, printed}
 
 -- how often a call has failed, of each object whose fault ends a run
@@ -29,8 +25,8 @@ pub record Faults : Type 0 where
 
 -- what the devices tell at a moment, the disk aside, and how often their calls have failed
 pub record Seen : Type 0 where
-  pub link : Option LinkTold
-  pub clock : Option ClockTold
+  pub link : Option (List LinkCall)
+  pub clock : Option (List ClockCall)
   pub words : Option (List ℕ)
   pub capture : Option (List ℕ)
   pub out : Option (List ℕ)
@@ -43,39 +39,31 @@ faults clock entropy disk capture out =
     record { clock = clock; entropy = entropy; disk = disk; capture = capture; out = out }
 
 -- these seven put together
-abbrev pub seen : Option LinkTold → Option ClockTold → Option (List ℕ) → Option (List ℕ) → Option (List ℕ) → ℕ → Faults → Seen
+abbrev pub seen : Option (List LinkCall) → Option (List ClockCall) → Option (List ℕ) → Option (List ℕ) → Option (List ℕ) → ℕ → Faults → Seen
 seen link clock words capture out link_faults faults =
     record { link = link; clock = clock; words = words; capture = capture; out = out; link_faults = link_faults; faults = faults }
 
 -- ---- What was given and done
 
--- the readings, words and receipts that the devices gave
+-- the calls of clock and link, each with what it gave or took, and the words that were drawn
 pub record Given : Type 0 where
-  pub readings : List ℤ
+  pub clock : List ClockCall
   pub words : List ℕ
-  pub receipts : List Receipt
+  pub link : List LinkCall
 
--- these readings were given, and these corrections were made
-abbrev pub Timed : Option ClockTold → Option ClockTold → List ℤ → List Move → Type 0
-Timed old new given made =
-    Changed (λ (told : ClockTold). record { readings = told.readings ++ given; moves = told.moves ++ made }) old new
-
--- where to a send was tried, and its bytes, whatever its answer
-abbrev pub posted_of : Tried → Posted
-posted_of tried = record { to = tried.to; bytes = tried.bytes }
-
--- All that the devices gave and took from one moment to another: this was given, and of these deeds, after this
+-- All that the devices gave and took from one moment to another: these are their calls, and of these deeds, after this
 -- history, each record was written, each request sent, each correction made and each line printed.
-pub record Does (conf : Conf) (history : History) (given : Given) (tried : List Tried) (deeds : List Deed) (ending : Ending) (before now : Seen) : Type 0 where
-  pub link : Exchanged before.link now.link tried given.receipts
-  pub requests : map posted_of tried ≡ along (posted_in conf) history (all_done deeds ending)
-  pub clock : Timed before.clock now.clock given.readings (along (moves_in conf) history (all_done deeds ending))
+pub record Does (conf : Conf) (history : History) (given : Given) (deeds : List Deed) (ending : Ending) (before now : Seen) : Type 0 where
+  pub link : Grew before.link now.link given.link
+  pub requests : map posted_of (sends_among given.link) ≡ along (posted_in conf) history (all_done deeds ending)
+  pub clock : Grew before.clock now.clock given.clock
+  pub moves : moves_among given.clock ≡ along (moves_in conf) history (all_done deeds ending)
   pub words : Added before.words now.words given.words
   pub fit : AllByRecursion EventFits (events_given deeds ending)
   pub capture : Added before.capture now.capture (captured deeds ending)
   pub out : Added before.out now.out (printed conf history deeds ending)
   pub has_line : HasLine conf history deeds ending
-  pub link_failed : FailsTimes (failed_receipts given.receipts + failed_sends tried) before.link_faults now.link_faults
+  pub link_failed : FailsTimes (failed_calls given.link) before.link_faults now.link_faults
 
 -- ---- Why a part of a run ended
 
@@ -178,11 +166,16 @@ IsBehind (Tick now word) need = NeedsReceipt need
 IsBehind (Resync now word flags) need = IsInCalls need
 IsBehind (Arrive now from bytes) need = IsBetween need
 
--- Where a sink failed, nothing was asked for behind the event whose record or line is not whole. The closing lines come
--- when all turns were taken.
+-- what an event led to is needed next, its send or its correction
+abbrev pub IsToDo : Event → Need → Type 0
+IsToDo event (Act outcome behind) = IsBehind event behind
+IsToDo event _ = ⊥
+
+-- Where a record could not be written, what its event led to was not done. Where a line could not, it was, and nothing was
+-- asked for behind it. The closing lines come when all turns were taken.
 abbrev pub StopsAt : Ending → Need → Type 0
 StopsAt Whole need = ⊥
-StopsAt (NoRecord event front) need = IsBehind event need
+StopsAt (NoRecord event front) need = IsToDo event need
 StopsAt (NoLine (Take event) front) need = IsBehind event need
 StopsAt (NoLine (Print line) front) need = need ≡ Turns 0
 

@@ -2,17 +2,18 @@
 use Rattle.std.specs.Prelude.{◌≡◌, ◌⊎◌, ◌≢◌, ℕ, ◌+◌, ◌-◌, ◌*◌, ◌/◌, ◌^◌, ◌<◌, ◌≤◌, ℤ, min, List, [], ◌∷◌, ◌++◌, length, map, reverse, take, flat_map, IfSome, ⊤}
 use Rattle.std.specs.List.{count_by}
 use Rattle.base_specs.specs.Counts.{FailsTimes}
-use Rattle.base_specs.specs.Told.{Added}
+use Rattle.base_specs.specs.Told.{Added, Grew}
 use Rattle.line_text.specs.Text.{joined}
-use Rattle.edge_traits.specs.declared.link.Receipt.{Receipt}
 use Rattle.edge_traits.specs.declared.link.Tried.{Tried}
-use Rattle.edge_traits.specs.Link.{Exchanged, failed_receipts, failed_sends}
+use Rattle.edge_traits.specs.Clock.{Read, moves_among, readings_among}
+use Rattle.edge_traits.specs.Link.{LinkCall, failed_calls, receipts_among, sends_among}
 use Rattle.capture_fmt.specs.declared.event.Event.{Event}
 use Rattle.capture_fmt.specs.declared.event.Event.TheVariants.{Life}
 use Rattle.capture_fmt.specs.Capture.{SpellsEvents}
+use Rattle.slot_disk.specs.Calls.{LeavesOnly}
 use Rattle.slot_disk.specs.Told.{DiskTold}
 use Rattle.stamp_keep.specs.Image.{mark_of_image}
-use Rattle.stamp_keep.specs.Keep.{IsLeft, IsLoadable, StandsAsBefore}
+use Rattle.stamp_keep.specs.Keep.{IsLeft, IsLoadable, KeepsUnused, StandsAsBefore}
 use Rattle.stamp_keep.specs.Slots.{HasOtherVersion}
 use Rattle.time_machine.specs.declared.conf.Conf.{Conf}
 use Rattle.time_machine.specs.Entries.{count_of, gather}
@@ -26,9 +27,9 @@ use Rattle.time_machine.specs.Report.{line_of, report_of}
 use Rattle.run_deeds.specs.declared.life_end.LifeEnd.{LifeEnd}
 use Rattle.run_deeds.specs.declared.life_end.Why.{Why}
 use Rattle.run_deeds.specs.declared.life_end.Why.TheVariants.{Done, DiskFault, BadVersion, StampsSpent, SinkFault}
-use Rattle.run_deeds.specs.Weaving.{Stood, Need, Start, Turns, Weaves, weave}
-use Rattle.run_deeds.specs.Deeds.{Ending, Whole, NoRecord, NoLine, Take, Print, missing_in, cut_record, reasons_by, ticks_by}
-use Rattle.run_deeds.specs.Devices.{Seen, Given, Timed, LifeEndsBy, IsBeforeTick, posted_of}
+use Rattle.run_deeds.specs.Weaving.{Stood, Need, Start, Turns, Act, Weaves, clock_calls, posted_of, ticks_by, turn_calls, turn_requests, weave}
+use Rattle.run_deeds.specs.Deeds.{Ending, Whole, NoRecord, NoLine, Take, Print, missing_in, cut_record, reasons_by}
+use Rattle.run_deeds.specs.Devices.{Seen, Given, LifeEndsBy, IsBeforeTick}
 use Rattle.run_deeds.specs.Parts.{is_quiet}
 use Rattle.run_deeds.specs.Closing.{closing_lines, closing_by}
 use Rattle.run_deeds.specs.Marks.{IsDue, KeepsLoadable, MarksBeforeSends, blocks_of}
@@ -47,12 +48,12 @@ Reports conf history end (NoLine (Print line) front) need text =
     × (text ≡ report_of conf history ++ joined before ++ take front line)
 
 -- the numbers of a run, each as far as 32 bits go
-pub record Totals (conf : Conf) (events : List Event) (receipts : List Receipt) (tried : List Tried) (end : LifeEnd) : Type 0 where
+pub record Totals (conf : Conf) (events : List Event) (calls : List LinkCall) (end : LifeEnd) : Type 0 where
   pub sent : end.sent ≡ min (length (requests_of conf (reverse events))) (2 ^ 32 - 1)
   pub moved : end.moved ≡ min (length (moves_of conf (reverse events))) (2 ^ 32 - 1)
   pub refused : end.refused ≡ min (length (gather (λ t. reasons_by t.outcome) (told conf (reverse events)))) (2 ^ 32 - 1)
-  pub quiet : end.quiet ≡ min (count_by is_quiet receipts) (2 ^ 32 - 1)
-  pub lost : end.lost ≡ min (failed_receipts receipts + failed_sends tried) (2 ^ 32 - 1)
+  pub quiet : end.quiet ≡ min (count_by is_quiet (receipts_among calls)) (2 ^ 32 - 1)
+  pub lost : end.lost ≡ min (failed_calls calls) (2 ^ 32 - 1)
   pub turns : end.turns ≡ min (length (flat_map ticks_by events)) (2 ^ 32 - 1)
 
 -- What the answers that speak of the disk say of the events taken. A disk of another version is refused before the
@@ -73,58 +74,89 @@ CallsForBlocks why ending need life start end =
     (end ≤ start + 5 * blocks_of life)
     ⊎ (IsDue life × IsBeforeTick ending need × (why ≢ StampsSpent) × (end ≤ start + 5 * (1 + blocks_of life)))
 
--- A run. Its history is the events taken, the last one first.
-pub record Lives (conf : Conf) (turns : ℕ) (entry exit : DiskTold) (before now : Seen) (end : LifeEnd) : Type 0 where
-  -- what the disk's content stood for at entry
-  pub stood : Stood
-  pub stood_for : IfSome entry.content (λ c. stood.mark ≡ mark_of_image c)
-  -- the events that were woven of what was given, each reading, word and receipt where it was needed, and what was
-  -- needed next; all but the one whose record could not be written were taken
+-- what is needed behind an event, whether what it led to was done or not
+abbrev pub behind_act : Need → Need
+behind_act (Act outcome behind) = behind
+behind_act need = need
+
+-- ---- A run, in four parts
+
+-- What was woven: the calls of clock and link and the words drawn, each where it was needed, the events that they give,
+-- what there is of the last one, and what was needed next. All events but the one whose record could not be written
+-- were taken. The history is these, the last one first.
+pub record Woven (conf : Conf) (turns : ℕ) (stood : Stood) : Type 0 where
   pub given : Given
   pub events : List Event
   pub ending : Ending
   pub need : Need
-  pub woven : events ++ missing_in ending ≡ weave stood given.readings given.words given.receipts
-  pub weaves : Weaves conf (Start stood (Turns turns)) [] given.readings given.words given.receipts (events ++ missing_in ending) need
+  pub woven : events ++ missing_in ending ≡ weave stood (readings_among given.clock) given.words (receipts_among given.link)
+  pub weaves : Weaves conf (Start stood (Turns turns)) [] given.clock given.words given.link (events ++ missing_in ending) need
   pub grows : Grows conf (reverse events)
-  -- the sends tried are the requests of that history, and the moves made its moves, of which no two answer one request
-  pub tried : List Tried
-  pub link : Exchanged before.link now.link tried given.receipts
-  pub requests : map posted_of tried ≡ requests_of conf (reverse events)
-  pub clock : Timed before.clock now.clock given.readings (moves_of conf (reverse events))
-  pub once : MovesOnce (told conf (reverse events))
-  pub words : Added before.words now.words given.words
+
+-- What the devices were asked for and given: requests, corrections, capture and report.
+pub record Effects (conf : Conf) {turns : ℕ} {stood : Stood} (w : Woven conf turns stood) (before now : Seen) (end : LifeEnd) : Type 0 where
+  -- The sends tried are the requests of the history. Turn by turn the request of the Tick is sent, and then the receipt
+  -- is taken.
+  pub link : Grew before.link now.link w.given.link
+  pub requests : map posted_of (sends_among w.given.link) ≡ requests_of conf (reverse w.events)
+  pub by_turn : List (List Tried)
+  pub asked : map (map posted_of) by_turn ≡ turn_requests conf [] w.events
+  pub in_turn : w.given.link ≡ turn_calls by_turn (receipts_among w.given.link)
+  -- The corrections made are those of the history, of which no two answer one request. Each is made right behind the
+  -- reading of its event. Behind the last event there is one reading more at most, which is no taken event's.
+  pub clock : Grew before.clock now.clock w.given.clock
+  pub moves : moves_among w.given.clock ≡ moves_of conf (reverse w.events)
+  pub rest : List ℤ
+  pub one : length rest ≤ 1
+  pub at_once : w.given.clock ≡ clock_calls conf [] w.events ++ map Read rest
+  pub once : MovesOnce (told conf (reverse w.events))
+  pub words : Added before.words now.words w.given.words
   -- the capture spells the history, behind which stands a front of the record that could not be written
   pub record_bytes : List ℕ
-  pub spells : SpellsEvents events record_bytes
-  pub capture : Added before.capture now.capture (record_bytes ++ cut_record ending)
+  pub spells : SpellsEvents w.events record_bytes
+  pub capture : Added before.capture now.capture (record_bytes ++ cut_record w.ending)
   -- the report
   pub text : List ℕ
-  pub reports : Reports conf (reverse events) end ending need text
+  pub reports : Reports conf (reverse w.events) end w.ending w.need text
   pub out : Added before.out now.out text
-  pub totals : Totals conf events given.receipts tried end
-  -- why the run ended: exactly one call failed, or none
-  pub ends : LifeEndsBy end.why ending need before.faults now.faults
-  pub link_failed : FailsTimes (failed_receipts given.receipts + failed_sends tried) before.link_faults now.link_faults
-  pub well : end.why ≡ Done → need ≡ Turns 0
+
+-- Why the run ended, and what it came to: exactly one call failed, or none, but for those of the link.
+pub record Ended (conf : Conf) {turns : ℕ} {stood : Stood} (w : Woven conf turns stood) (before now : Seen) (end : LifeEnd) : Type 0 where
+  pub ends : LifeEndsBy end.why w.ending w.need before.faults now.faults
+  pub link_failed : FailsTimes (failed_calls w.given.link) before.link_faults now.link_faults
+  pub well : end.why ≡ Done → w.need ≡ Turns 0
   -- where the record or the line of the Life could not be written, the first turn is needed next
-  pub life_last : end.why ≡ SinkFault → (now : ℤ) → events ++ missing_in ending ≡ Life now stood.mark ∷ [] → need ≡ Turns turns
-  pub kept : KeptBy end.why stood events (told conf (reverse events)) entry exit
+  pub life_last : end.why ≡ SinkFault → (now : ℤ) → w.events ++ missing_in w.ending ≡ Life now stood.mark ∷ [] → behind_act w.need ≡ Turns turns
+  pub totals : Totals conf w.events w.given.link end
+
+-- What the disk was called for, and what it stands for.
+pub record Kept (conf : Conf) {turns : ℕ} {stood : Stood} (w : Woven conf turns stood) (entry exit : DiskTold) (why : Why) : Type 0 where
+  pub kept : KeptBy why stood w.events (told conf (reverse w.events)) entry exit
   -- a load doesn't refuse the disk where an event was taken, and where the answer is none of the disk
-  pub loadable : (events ≢ []) ⊎ ((end.why ≢ BadVersion) × (end.why ≢ DiskFault)) → IfSome entry.content IsLoadable
+  pub loadable : (w.events ≢ []) ⊎ ((why ≢ BadVersion) × (why ≢ DiskFault)) → IfSome entry.content IsLoadable
   -- what the run leaves can be loaded again, where each image at entry could
   pub loads : KeepsLoadable entry exit
-  -- the disk: marks before sends, no count reserved past the last one of 32 bits, at most five calls for each block and
-  -- four before the Life, and the mark at the end
-  pub marks : MarksBeforeSends entry exit stood.mark (told conf (reverse events))
-  pub within : events ≢ [] → stood.mark + 64 * blocks_of (life_at (told conf (reverse events))) < 2 ^ 32
-  pub calls : exit.time ≤ entry.time + 4 + 5 * (1 + length tried / 64)
-  pub blocks : CallsForBlocks end.why ending need (life_at (told conf (reverse events))) (entry.time + 4) exit.time
-  -- what the run leaves stands for a mark that an image at entry stood for, or for a block more at most than the
-  -- requests fill
-  pub most : (image : List ℕ) → exit.may_leave image
-      → StandsAsBefore entry image ⊎ (mark_of_image image ≤ stood.mark + 64 * (1 + length tried / 64))
-  -- where the disk was loaded, it stands for no more than that, and can be loaded
-  pub loaded : (events ≢ []) ⊎ ((end.why ≢ BadVersion) × (end.why ≢ DiskFault)) → (image : List ℕ) → exit.may_leave image
-      → IsLoadable image × (mark_of_image image ≤ stood.mark + 64 * (1 + length tried / 64))
-  pub reserved : end.why ≡ Done → IfSome exit.content (λ c. mark_of_image c ≡ stood.mark + 64 * blocks_of (life_at (told conf (reverse events))))
+  -- marks before sends, no count reserved past the last one of 32 bits, at most five calls for each block and four before
+  -- the Life
+  pub marks : MarksBeforeSends entry exit stood.mark (told conf (reverse w.events))
+  pub within : w.events ≢ [] → stood.mark + 64 * blocks_of (life_at (told conf (reverse w.events))) < 2 ^ 32
+  pub calls : exit.time ≤ entry.time + 4 + 5 * (1 + length (sends_among w.given.link) / 64)
+  pub blocks : CallsForBlocks why w.ending w.need (life_at (told conf (reverse w.events))) (entry.time + 4) exit.time
+  -- What a crash at any moment of the run leaves stands for a mark that an image at entry stood for, or for a block more at
+  -- most than the requests fill; and the bytes that belong to no slot are those of an image at entry.
+  pub most : LeavesOnly entry exit (λ image. StandsAsBefore entry image ⊎ (mark_of_image image ≤ stood.mark + 64 * (1 + length (sends_among w.given.link) / 64)))
+  pub unused : LeavesOnly entry exit (KeepsUnused entry)
+  -- where the disk was loaded, what is left stands for no more than that, and can be loaded
+  pub loaded : (w.events ≢ []) ⊎ ((why ≢ BadVersion) × (why ≢ DiskFault)) → (image : List ℕ) → exit.may_leave image
+      → IsLoadable image × (mark_of_image image ≤ stood.mark + 64 * (1 + length (sends_among w.given.link) / 64))
+  -- the mark at the end
+  pub reserved : why ≡ Done → IfSome exit.content (λ c. mark_of_image c ≡ stood.mark + 64 * blocks_of (life_at (told conf (reverse w.events))))
+
+-- a run: what the disk's content stood for at entry, and the four parts
+pub record Lives (conf : Conf) (turns : ℕ) (entry exit : DiskTold) (before now : Seen) (end : LifeEnd) : Type 0 where
+  pub stood : Stood
+  pub stood_for : IfSome entry.content (λ c. stood.mark ≡ mark_of_image c)
+  pub woven : Woven conf turns stood
+  pub effects : Effects conf woven before now end
+  pub ended : Ended conf woven before now end
+  pub kept : Kept conf woven entry exit end.why

@@ -1,10 +1,9 @@
 -- A part of a run, whichever of its calls ends it.
-use Rattle.std.specs.Prelude.{◌≡◌, ℕ, ◌+◌, Bool, true, false, List, length, map, flat_map, Result, Ok, Err}
+use Rattle.std.specs.Prelude.{◌≡◌, ℕ, Bool, true, false, List, length, map, flat_map, Result, Ok, Err}
 use Rattle.std.specs.List.{count_by}
 use Rattle.edge_traits.specs.declared.link.Receipt.{Receipt}
 use Rattle.edge_traits.specs.declared.link.Receipt.TheVariants.{Got, Quiet, Failed}
-use Rattle.edge_traits.specs.declared.link.Tried.{Tried}
-use Rattle.edge_traits.specs.Link.{failed_receipts, failed_sends}
+use Rattle.edge_traits.specs.Link.{LinkCall, failed_calls, receipts_among}
 use Rattle.capture_fmt.specs.declared.event.Event.{Event}
 use Rattle.time_machine.specs.declared.conf.Conf.{Conf}
 use Rattle.time_machine.specs.Events.{History}
@@ -27,13 +26,13 @@ is_quiet (Got from bytes) = false
 is_quiet Quiet = true
 is_quiet Failed = false
 
--- The numbers of a run go up by what these deeds, after this history, these receipts and these sends come to.
-pub record Tallies (conf : Conf) (history : History) (deeds : List Deed) (receipts : List Receipt) (tried : List Tried) (old new : LifeEnd) : Type 0 where
+-- The numbers of a run go up by what these deeds, after this history, and these calls of the link come to.
+pub record Tallies (conf : Conf) (history : History) (deeds : List Deed) (calls : List LinkCall) (old new : LifeEnd) : Type 0 where
   pub sent : new.sent ≡ more old.sent (length (along (posted_in conf) history deeds))
   pub moved : new.moved ≡ more old.moved (length (along (moves_in conf) history deeds))
   pub refused : new.refused ≡ more old.refused (length (along (reasons_in conf) history deeds))
-  pub quiet : new.quiet ≡ more old.quiet (count_by is_quiet receipts)
-  pub lost : new.lost ≡ more old.lost (failed_receipts receipts + failed_sends tried)
+  pub quiet : new.quiet ≡ more old.quiet (count_by is_quiet (receipts_among calls))
+  pub lost : new.lost ≡ more old.lost (failed_calls calls)
   pub turns : new.turns ≡ more old.turns (length (flat_map ticks_in deeds))
   pub why : new.why ≡ old.why
 
@@ -47,17 +46,16 @@ why_of (Err why) = why
 -- kept' behind it.
 pub record Runs (conf : Conf) (from next : Need) (history : History) (before now : Seen) (kept kept' : ℕ) (old new : LifeEnd) (why : Why) : Type 0 where
   pub given : Given
-  pub tried : List Tried
   pub deeds : List Deed
   pub ending : Ending
   pub need : Need
-  pub weaves : Weaves conf from history given.readings given.words given.receipts (events_given deeds ending) need
-  pub does : Does conf history given tried deeds ending before now
+  pub weaves : Weaves conf from history given.clock given.words given.link (events_given deeds ending) need
+  pub does : Does conf history given deeds ending before now
   -- no line is printed that is not an event's
   pub taken : List Event
   pub takes : all_done deeds ending ≡ map Take taken
   pub grows : Grows conf (history_after history (all_done deeds ending))
-  pub tallies : Tallies conf history (all_done deeds ending) given.receipts tried old new
+  pub tallies : Tallies conf history (all_done deeds ending) given.link old new
   pub ends : LifeEndsBy why ending need before.faults now.faults
   pub well : why ≡ Done → need ≡ next
   -- the counts reserved are those that were due

@@ -1,15 +1,18 @@
 -- The events of a run, from what its devices gave.
-use Rattle.std.specs.Prelude.{ℕ, suc, ◌==◌, if◌then◌else◌, ℤ, List, [], ◌∷◌, is_some}
+use Rattle.std.specs.Prelude.{◌≡◌, ℕ, suc, ◌==◌, if◌then◌else◌, ℤ, List, [], ◌∷◌, ◌++◌, is_some, map}
+use Rattle.edge_traits.specs.Clock.{ClockCall, Correct, Read}
+use Rattle.edge_traits.specs.Link.{LinkCall, Receive, Send}
 use Rattle.edge_traits.specs.declared.datagram.Addr.{Addr}
 use Rattle.edge_traits.specs.declared.link.Receipt.{Receipt}
 use Rattle.edge_traits.specs.declared.link.Receipt.TheVariants.{Got, Quiet, Failed}
+use Rattle.edge_traits.specs.declared.link.Tried.{Tried}
 use Rattle.capture_fmt.specs.declared.event.Event.{Event}
 use Rattle.capture_fmt.specs.declared.event.Event.TheVariants.{Life, Tick, Resync, Arrive}
 use Rattle.time_machine.specs.declared.conf.Conf.{Conf}
 use Rattle.time_machine.specs.declared.outcome.Outcome.{Outcome}
-use Rattle.time_machine.specs.Events.{History}
+use Rattle.time_machine.specs.Events.{History, reading_of}
 use Rattle.time_machine.specs.Told.{offset_moved}
-use Rattle.time_machine.specs.Machine.{outcome_at}
+use Rattle.time_machine.specs.Machine.{Posted, moves_by, outcome_at, posted_by}
 
 -- what the disk stands for when a run begins
 pub record Stood : Type 0 where
@@ -39,6 +42,35 @@ abbrev pub followed_by : History → List Event → History
 followed_by history [] = history
 followed_by history (event ∷ events) = followed_by (event ∷ history) events
 
+-- ---- The calls of clock and link, in their order, to be read aloud
+
+-- of the clock each event's reading, and right behind it the correction that the event leads to, if there is one
+abbrev pub clock_calls : Conf → History → List Event → List ClockCall
+clock_calls conf history [] = []
+clock_calls conf history (event ∷ later) =
+    Read (reading_of event) ∷ map Correct (moves_by (outcome_at conf history event)) ++ clock_calls conf (event ∷ history) later
+
+-- the event, if it is a Tick
+abbrev pub ticks_by : Event → List Event
+ticks_by (Tick now word) = Tick now word ∷ []
+ticks_by _ = []
+
+-- the requests of turns: of each Tick the one that it leads to, if there is one
+abbrev pub turn_requests : Conf → History → List Event → List (List Posted)
+turn_requests conf history [] = []
+turn_requests conf history (event ∷ later) =
+    map (λ (tick : Event). posted_by (outcome_at conf history tick)) (ticks_by event) ++ turn_requests conf (event ∷ history) later
+
+-- of the link turn by turn the sends of its Tick, and behind them its receipt; the last turn may be without one
+abbrev pub turn_calls : List (List Tried) → List Receipt → List LinkCall
+turn_calls [] receipts = map Receive receipts
+turn_calls (tried ∷ later) [] = map Send tried ++ turn_calls later []
+turn_calls (tried ∷ later) (receipt ∷ receipts) = map Send tried ++ Receive receipt ∷ turn_calls later receipts
+
+-- where to a send was tried, and its bytes, whatever its answer
+abbrev pub posted_of : Tried → Posted
+posted_of tried = record { to = tried.to; bytes = tried.bytes }
+
 -- ---- The same for any part of any run, call by call
 
 -- what a run needs next
@@ -63,6 +95,8 @@ pub data Need : Type 0 where
   Round : (left : ℕ) → Need
   -- the reading of the Arrive of this datagram, behind which the round may take so many receipts
   RoundReading : (left : ℕ) (from : Addr) (bytes : List ℕ) → Need
+  -- what an event led to, its send or its correction; what is needed behind it
+  Act : (outcome : Outcome) (behind : Need) → Need
 
 -- a round may take so many receipts still, or is over
 abbrev pub round_of : ℕ → Need
@@ -76,46 +110,50 @@ behind_request wait = if wait == 0 then Call else Round 16
 abbrev pub behind_arrival : ℕ → Outcome → Need
 behind_arrival left outcome = if is_some (offset_moved outcome) then Call else round_of left
 
--- After a history, from one need to another: these readings, words and receipts are taken, each where it is needed,
--- and give these events, the first one first.
-pub data Weaves (conf : Conf) : Need → History → List ℤ → List ℕ → List Receipt → List Event → Need → Type 0 where
+-- After a history, from one need to another: these calls of clock and link were made and these words drawn, each in its
+-- turn, and give these events, the first one first. What an event leads to is done right behind it.
+pub data Weaves (conf : Conf) : Need → History → List ClockCall → List ℕ → List LinkCall → List Event → Need → Type 0 where
   none : {need : Need} {history : History} → Weaves conf need history [] [] [] [] need
-  life : {stood : Stood} {next need : Need} {history : History} {now : ℤ} {rs : List ℤ} {ws : List ℕ} {qs : List Receipt} {es : List Event}
-      → Weaves conf next (Life now stood.mark ∷ history) rs ws qs es need
-      → Weaves conf (Start stood next) history (now ∷ rs) ws qs (Life now stood.mark ∷ es) need
-  reads : {left : ℕ} {need : Need} {history : History} {now : ℤ} {rs : List ℤ} {ws : List ℕ} {qs : List Receipt} {es : List Event}
-      → Weaves conf (WordFor left now) history rs ws qs es need
-      → Weaves conf (Turns (suc left)) history (now ∷ rs) ws qs es need
-  draws : {left : ℕ} {need : Need} {history : History} {now : ℤ} {word : ℕ} {rs : List ℤ} {ws : List ℕ} {qs : List Receipt} {es : List Event}
-      → Weaves conf (ReceiptNow left) (Tick now word ∷ history) rs ws qs es need
-      → Weaves conf (WordFor left now) history rs (word ∷ ws) qs (Tick now word ∷ es) need
-  gets : {left : ℕ} {need : Need} {history : History} {from : Addr} {bytes : List ℕ} {rs : List ℤ} {ws : List ℕ} {qs : List Receipt} {es : List Event}
-      → Weaves conf (ReadingFor left from bytes) history rs ws qs es need
-      → Weaves conf (ReceiptNow left) history rs ws (Got from bytes ∷ qs) es need
-  quiet : {left : ℕ} {need : Need} {history : History} {rs : List ℤ} {ws : List ℕ} {qs : List Receipt} {es : List Event}
-      → Weaves conf (Turns left) history rs ws qs es need
-      → Weaves conf (ReceiptNow left) history rs ws (Quiet ∷ qs) es need
-  lost : {left : ℕ} {need : Need} {history : History} {rs : List ℤ} {ws : List ℕ} {qs : List Receipt} {es : List Event}
-      → Weaves conf (Turns left) history rs ws qs es need
-      → Weaves conf (ReceiptNow left) history rs ws (Failed ∷ qs) es need
-  arrives : {left : ℕ} {need : Need} {history : History} {from : Addr} {bytes : List ℕ} {now : ℤ} {rs : List ℤ} {ws : List ℕ} {qs : List Receipt} {es : List Event}
-      → Weaves conf (Turns left) (Arrive now from bytes ∷ history) rs ws qs es need
-      → Weaves conf (ReadingFor left from bytes) history (now ∷ rs) ws qs (Arrive now from bytes ∷ es) need
-  call_reads : {wait flags : ℕ} {need : Need} {history : History} {now : ℤ} {rs : List ℤ} {ws : List ℕ} {qs : List Receipt} {es : List Event}
-      → Weaves conf (CallWord wait flags now) history rs ws qs es need
-      → Weaves conf (CallReading wait flags) history (now ∷ rs) ws qs es need
-  call_draws : {wait flags : ℕ} {need : Need} {history : History} {now : ℤ} {word : ℕ} {rs : List ℤ} {ws : List ℕ} {qs : List Receipt} {es : List Event}
-      → Weaves conf (behind_request wait) (Resync now word flags ∷ history) rs ws qs es need
-      → Weaves conf (CallWord wait flags now) history rs (word ∷ ws) qs (Resync now word flags ∷ es) need
-  round_gets : {left : ℕ} {need : Need} {history : History} {from : Addr} {bytes : List ℕ} {rs : List ℤ} {ws : List ℕ} {qs : List Receipt} {es : List Event}
-      → Weaves conf (RoundReading left from bytes) history rs ws qs es need
-      → Weaves conf (Round (suc left)) history rs ws (Got from bytes ∷ qs) es need
-  round_quiet : {left : ℕ} {need : Need} {history : History} {rs : List ℤ} {ws : List ℕ} {qs : List Receipt} {es : List Event}
-      → Weaves conf Call history rs ws qs es need
-      → Weaves conf (Round (suc left)) history rs ws (Quiet ∷ qs) es need
-  round_lost : {left : ℕ} {need : Need} {history : History} {rs : List ℤ} {ws : List ℕ} {qs : List Receipt} {es : List Event}
-      → Weaves conf (round_of left) history rs ws qs es need
-      → Weaves conf (Round (suc left)) history rs ws (Failed ∷ qs) es need
-  round_arrives : {left : ℕ} {need : Need} {history : History} {from : Addr} {bytes : List ℕ} {now : ℤ} {rs : List ℤ} {ws : List ℕ} {qs : List Receipt} {es : List Event}
-      → Weaves conf (behind_arrival left (outcome_at conf history (Arrive now from bytes))) (Arrive now from bytes ∷ history) rs ws qs es need
-      → Weaves conf (RoundReading left from bytes) history (now ∷ rs) ws qs (Arrive now from bytes ∷ es) need
+  acts : {outcome : Outcome} {behind need : Need} {history : History} {tried : List Tried} {cs : List ClockCall} {ws : List ℕ} {ls : List LinkCall} {es : List Event}
+      → map posted_of tried ≡ posted_by outcome
+      → Weaves conf behind history cs ws ls es need
+      → Weaves conf (Act outcome behind) history (map Correct (moves_by outcome) ++ cs) ws (map Send tried ++ ls) es need
+  life : {stood : Stood} {next : Need} {now : ℤ} {need : Need} {history : History} {cs : List ClockCall} {ws : List ℕ} {ls : List LinkCall} {es : List Event}
+      → Weaves conf (Act (outcome_at conf history (Life now stood.mark)) next) (Life now stood.mark ∷ history) cs ws ls es need
+      → Weaves conf (Start stood next) history (Read now ∷ cs) ws ls (Life now stood.mark ∷ es) need
+  reads : {left : ℕ} {now : ℤ} {need : Need} {history : History} {cs : List ClockCall} {ws : List ℕ} {ls : List LinkCall} {es : List Event}
+      → Weaves conf (WordFor left now) history cs ws ls es need
+      → Weaves conf (Turns (suc left)) history (Read now ∷ cs) ws ls es need
+  draws : {left : ℕ} {now : ℤ} {word : ℕ} {need : Need} {history : History} {cs : List ClockCall} {ws : List ℕ} {ls : List LinkCall} {es : List Event}
+      → Weaves conf (Act (outcome_at conf history (Tick now word)) (ReceiptNow left)) (Tick now word ∷ history) cs ws ls es need
+      → Weaves conf (WordFor left now) history cs (word ∷ ws) ls (Tick now word ∷ es) need
+  gets : {left : ℕ} {from : Addr} {bytes : List ℕ} {need : Need} {history : History} {cs : List ClockCall} {ws : List ℕ} {ls : List LinkCall} {es : List Event}
+      → Weaves conf (ReadingFor left from bytes) history cs ws ls es need
+      → Weaves conf (ReceiptNow left) history cs ws (Receive (Got from bytes) ∷ ls) es need
+  quiet : {left : ℕ} {need : Need} {history : History} {cs : List ClockCall} {ws : List ℕ} {ls : List LinkCall} {es : List Event}
+      → Weaves conf (Turns left) history cs ws ls es need
+      → Weaves conf (ReceiptNow left) history cs ws (Receive Quiet ∷ ls) es need
+  lost : {left : ℕ} {need : Need} {history : History} {cs : List ClockCall} {ws : List ℕ} {ls : List LinkCall} {es : List Event}
+      → Weaves conf (Turns left) history cs ws ls es need
+      → Weaves conf (ReceiptNow left) history cs ws (Receive Failed ∷ ls) es need
+  arrives : {left : ℕ} {from : Addr} {bytes : List ℕ} {now : ℤ} {need : Need} {history : History} {cs : List ClockCall} {ws : List ℕ} {ls : List LinkCall} {es : List Event}
+      → Weaves conf (Act (outcome_at conf history (Arrive now from bytes)) (Turns left)) (Arrive now from bytes ∷ history) cs ws ls es need
+      → Weaves conf (ReadingFor left from bytes) history (Read now ∷ cs) ws ls (Arrive now from bytes ∷ es) need
+  call_reads : {wait flags : ℕ} {now : ℤ} {need : Need} {history : History} {cs : List ClockCall} {ws : List ℕ} {ls : List LinkCall} {es : List Event}
+      → Weaves conf (CallWord wait flags now) history cs ws ls es need
+      → Weaves conf (CallReading wait flags) history (Read now ∷ cs) ws ls es need
+  call_draws : {wait flags : ℕ} {now : ℤ} {word : ℕ} {need : Need} {history : History} {cs : List ClockCall} {ws : List ℕ} {ls : List LinkCall} {es : List Event}
+      → Weaves conf (Act (outcome_at conf history (Resync now word flags)) (behind_request wait)) (Resync now word flags ∷ history) cs ws ls es need
+      → Weaves conf (CallWord wait flags now) history cs (word ∷ ws) ls (Resync now word flags ∷ es) need
+  round_gets : {left : ℕ} {from : Addr} {bytes : List ℕ} {need : Need} {history : History} {cs : List ClockCall} {ws : List ℕ} {ls : List LinkCall} {es : List Event}
+      → Weaves conf (RoundReading left from bytes) history cs ws ls es need
+      → Weaves conf (Round (suc left)) history cs ws (Receive (Got from bytes) ∷ ls) es need
+  round_quiet : {left : ℕ} {need : Need} {history : History} {cs : List ClockCall} {ws : List ℕ} {ls : List LinkCall} {es : List Event}
+      → Weaves conf Call history cs ws ls es need
+      → Weaves conf (Round (suc left)) history cs ws (Receive Quiet ∷ ls) es need
+  round_lost : {left : ℕ} {need : Need} {history : History} {cs : List ClockCall} {ws : List ℕ} {ls : List LinkCall} {es : List Event}
+      → Weaves conf (round_of left) history cs ws ls es need
+      → Weaves conf (Round (suc left)) history cs ws (Receive Failed ∷ ls) es need
+  round_arrives : {left : ℕ} {from : Addr} {bytes : List ℕ} {now : ℤ} {need : Need} {history : History} {cs : List ClockCall} {ws : List ℕ} {ls : List LinkCall} {es : List Event}
+      → Weaves conf (Act (outcome_at conf history (Arrive now from bytes)) (behind_arrival left (outcome_at conf history (Arrive now from bytes)))) (Arrive now from bytes ∷ history) cs ws ls es need
+      → Weaves conf (RoundReading left from bytes) history (Read now ∷ cs) ws ls (Arrive now from bytes ∷ es) need
