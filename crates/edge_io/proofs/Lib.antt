@@ -1,3 +1,4 @@
 mod Fronts
+mod Servo
 mod Sessions
 mod Slews

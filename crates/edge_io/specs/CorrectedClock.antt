@@ -40,6 +40,12 @@ ReadsAt (Some machine) clock.Failed old new =
 ReadsAt None (clock.At t) old new = ⊥
 ReadsAt None clock.Failed old new = new ≡ with_fault old
 
+-- A step drops what is left of a slew when the machine's clock reads this; where that can't be had, what was left when
+-- it was last looked at.
+abbrev pub stepped_at : Option ℕ → ℤ → CorrectedClock → CorrectedClock
+stepped_at (Some machine) amount c = with_step amount (looking_at machine c)
+stepped_at None amount c = with_step amount c
+
 -- A slew begins at what the machine's clock reads; where that can't be had, it begins where it was last looked at.
 abbrev pub slewed_at : Option ℕ → ℤ → CorrectedClock → CorrectedClock
 slewed_at (Some machine) amount c = with_slew amount (looking_at machine c)

@@ -1,9 +1,9 @@
 -- How a clock differs from the machine's.
-use Rattle.std.specs.Prelude.{ℕ, ◌+◌, ◌-◌, ◌/◌, ◌%◌, ◌^◌, ◌==◌, min, if◌then◌else◌, ℤ, pos, negsuc, neg_ℤ, unsigned_abs, ◌+ℤ◌, ◌-ℤ◌, Option, Some, None}
+use Rattle.std.specs.Prelude.{ℕ, ◌+◌, ◌-◌, ◌/◌, ◌^◌, min, ℤ, pos, negsuc, neg_ℤ, ◌+ℤ◌, Option, Some, None}
 use Rattle.std.specs.Int.{w128, saturate_signed}
 
--- What was moved of a clock by steps and by earlier slews; what was open when the last slew was begun, that slew
--- included; the ticks of the machine's clock that count towards it; and what that clock read when it was last looked at.
+-- What was moved of a clock by steps and by earlier slews; the last slew; the ticks of the machine's clock that passed
+-- since; and what that clock read when it was last looked at.
 pub record Correction : Type 0 where
   pub moved : ℤ
   pub slew : ℤ
@@ -14,10 +14,6 @@ pub record Correction : Type 0 where
 abbrev pub worked_off : ℤ → ℕ → ℤ
 worked_off (pos amount) passed = pos (min amount (passed / 2000))
 worked_off (negsuc less) passed = neg_ℤ (pos (min (less + 1) (passed / 2000)))
-
--- what is left of the slew
-abbrev pub left_of : Correction → ℤ
-left_of c = c.slew -ℤ worked_off c.slew c.passed
 
 -- by how many ticks the clock is ahead of the machine's
 abbrev pub ahead_of : Correction → ℤ
@@ -32,19 +28,10 @@ ticks_since (Some seen) machine = machine - seen
 abbrev pub looked_at : ℕ → Correction → Correction
 looked_at machine c = record c { passed = min (c.passed + ticks_since c.seen machine) (2 ^ 128 - 1); seen = Some machine }
 
--- a step of so many ticks
-abbrev pub stepped_by : ℤ → Correction → Correction
-stepped_by amount c = record c { moved = saturate_signed w128 (c.moved +ℤ amount) }
-
--- The ticks of the machine's clock that count towards the next tick of a slew of which so much is left: none
--- where nothing is left.
-abbrev pub counted_on : ℤ → ℕ → ℕ
-counted_on left passed = if unsigned_abs left == 0 then 0 else passed % 2000
-
--- a slew of so many ticks is added to what is left of the one before
+-- A slew of so many ticks takes the place of what is left of the one before. What was worked off stays.
 abbrev pub slewed_by : ℤ → Correction → Correction
-slewed_by amount c = record c {
-  moved = saturate_signed w128 (ahead_of c);
-  slew = saturate_signed w128 (left_of c +ℤ amount);
-  passed = counted_on (left_of c) c.passed;
-}
+slewed_by amount c = record c { moved = saturate_signed w128 (ahead_of c); slew = amount; passed = 0 }
+
+-- A step of so many ticks leaves nothing of a slew. What was worked off stays.
+abbrev pub stepped_by : ℤ → Correction → Correction
+stepped_by amount c = record (slewed_by (pos 0) c) { moved = saturate_signed w128 (saturate_signed w128 (ahead_of c) +ℤ amount) }

@@ -7,6 +7,7 @@ pub mod Held
 pub mod LateFile
 pub mod LinkScript
 pub mod Pieces
+pub mod Servo
 pub mod SessionScript
 pub mod SinkScript
 pub mod SourceScript

@@ -1,8 +1,8 @@
 //! How a clock differs from the machine's: its steps, and what is worked off of its slews.
-ghost use Rattle.std.specs.Prelude.{◌≡◌, ◌<◌, ◌^◌, pos, ◌+ℤ◌, ◌-ℤ◌, None};
+ghost use Rattle.std.specs.Prelude.{◌≡◌, ◌<◌, ◌^◌, pos, ◌+ℤ◌, None};
 ghost use Rattle.std.specs.Option.{SomeIff};
 ghost use Rattle.base_specs.specs.Time.{IsReading};
-ghost use Rattle.edge_io.specs.Correction.{counted_on, worked_off};
+ghost use Rattle.edge_io.specs.Correction.{worked_off};
 
 use std::marker::Model;
 
@@ -14,15 +14,17 @@ const LAST_READING: i128 = 4_000_000_000_000_000_000;
 
 /// The steps and slews of a clock, in ticks of 100 ns.
 ///
-/// The sums have 128 bits. It takes 2^64 moves of the greatest amount to fill them, and then they stand still
-/// at their ends.
+/// The offset of a slew is measured against the corrected clock, so it has in it what is left of the slew before. A
+/// slew therefore takes the place of the one before, and a step leaves nothing of it.
+///
+/// The sum has 128 bits. It takes 2^63 moves of the greatest amount to fill it, and then it stands still at its end.
 #[derive(Drop)]
 pub(crate) struct Correction {
     /// The steps, and what was worked off of the slews before the last one.
     moved: i128,
-    /// What was open when the last slew was begun, that slew included.
-    slew: i128,
-    /// Ticks of the machine's clock that count towards it.
+    /// The last slew, or 0 after a step.
+    slew: i64,
+    /// Ticks of the machine's clock since the last slew.
     passed: u128,
     /// What the machine's clock read when it was last looked at.
     seen: Option<u128>,
@@ -46,7 +48,7 @@ impl Correction {
     ghost use Rattle.std.specs.Int.{w128, saturate_signed};
     ghost use Rattle.std.specs.Option.{SomeIff};
     ghost use Rattle.base_specs.specs.Time.{IsReading};
-    ghost use Rattle.edge_io.specs.Correction.{ahead_of, left_of, looked_at, slewed_by, stepped_by, worked_off};
+    ghost use Rattle.edge_io.specs.Correction.{ahead_of, looked_at, slewed_by, stepped_by};
 
     /// No move at all.
     pub(crate) fn new() -> Correction
@@ -72,23 +74,23 @@ impl Correction {
         self.seen = Some(machine);
     }
 
-    /// Moves the clock at once.
+    /// Moves the clock at once, and drops what is left of a slew.
     pub(crate) fn step(&mut self, amount: i64)
         ensures { self.new ≡ stepped_by amount self.old }
     {
+        self.slew(0);
         self.moved = self.moved.saturating_add(i128::from(amount));
     }
 
-    /// Begins to move the clock bit by bit.
+    /// Begins to move the clock bit by bit, in place of what is left of a slew.
     pub(crate) fn slew(&mut self, amount: i64)
         ensures slew { self.new ≡ slewed_by amount self.old }
         // A slew moves nothing at once.
         ensures kept { FitsSigned w128 (ahead_of self.old) → ahead_of self.new ≡ ahead_of self.old }
     {
-        let left = left_of(self.slew, self.passed);
         self.moved = self.ahead();
-        self.slew = left.saturating_add(i128::from(amount));
-        self.passed = counted_on(left, self.passed);
+        self.slew = amount;
+        self.passed = 0;
     }
 
     /// The moment, where it is one that a clock reads, when the machine's clock reads so many ticks.
@@ -110,25 +112,11 @@ impl Correction {
 }
 
 /// What is worked off of a slew after so many ticks of the machine's clock.
-fn worked_off(slew: i128, passed: u128) -> i128
+fn worked_off(slew: i64, passed: u128) -> i128
     ensures { result ≡ worked_off slew passed }
 {
     let most = (passed / RATE) as i128;
-    slew.clamp(-most, most)
-}
-
-/// What is left of a slew after so many ticks of the machine's clock.
-fn left_of(slew: i128, passed: u128) -> i128
-    ensures { result ≡ slew -ℤ worked_off slew passed }
-{
-    slew - worked_off(slew, passed)
-}
-
-/// The ticks of the machine's clock that count towards the next tick of a slew of which so much is left.
-fn counted_on(left: i128, passed: u128) -> u128
-    ensures { result ≡ counted_on left passed }
-{
-    if left == 0 { 0 } else { passed % RATE }
+    i128::from(slew).clamp(-most, most)
 }
 
 /// The moment, where it is one that a clock reads.
@@ -148,7 +136,7 @@ mod tests {
 
     #[test]
     fn slews_are_worked_off_at_one_tick_in_2000(rt: HostRuntime) {
-        let rows: [(i128, u128, i128); 9] = [
+        let rows: [(i64, u128, i128); 11] = [
             (10, 0, 0),
             (10, 1_999, 0),
             (10, 2_000, 1),
@@ -158,39 +146,39 @@ mod tests {
             (-10, 3_999, -1),
             (-10, 20_001, -10),
             (0, 20_000, 0),
+            (i64::MIN, u128::MAX, -9_223_372_036_854_775_808),
+            (i64::MAX, 4_000, 2),
         ];
         for (slew, passed, worked) in rows {
             assert_eq!(rt; worked_off(slew, passed), worked, "{slew} after {passed}");
         }
     }
 
+    /// By how much the clock is ahead when the machine's clock reads so many ticks.
+    fn ahead_at(correction: &mut Correction, machine: u128) -> i128 {
+        correction.look(machine);
+        correction.ahead()
+    }
+
     #[test]
-    fn slews_add_to_what_is_left(rt: HostRuntime) {
-        let mut correction = Correction::new();
-        correction.look(1_000);
-        correction.slew(3);
-        // What the machine's clock reads, and by how much the other is ahead then.
+    fn a_slew_or_a_step_drops_what_is_left(rt: HostRuntime) {
+        let mut clock = Correction::new();
+        clock.look(1_000);
+        clock.slew(3);
         for (machine, ahead) in [(2_999, 0), (3_000, 1), (5_500, 2)] {
-            correction.look(machine);
-            assert_eq!(rt; correction.ahead(), ahead, "at {machine}");
+            assert_eq!(rt; ahead_at(&mut clock, machine), ahead, "at {machine}");
         }
-        correction.slew(-5);
-        correction.step(100);
-        let rows = [
-            (6_999, 102),
-            (7_000, 101),
-            (500, 101),
-            (2_500, 100),
-            (99_000, 98),
-        ];
-        for (machine, ahead) in rows {
-            correction.look(machine);
-            assert_eq!(rt; correction.ahead(), ahead, "at {machine}");
+        // The third tick is dropped, and the 500 ticks that passed towards it count no more.
+        clock.slew(-5);
+        for (machine, ahead) in [(7_499, 2), (7_500, 1), (500, 1), (2_500, 0)] {
+            assert_eq!(rt; ahead_at(&mut clock, machine), ahead, "at {machine}");
         }
-        correction.slew(1);
-        correction.look(100_999);
-        assert_eq!(rt; correction.ahead(), 98);
-        correction.look(101_000);
-        assert_eq!(rt; correction.ahead(), 99);
+        // So are the last three of these five.
+        clock.step(100);
+        assert_eq!(rt; ahead_at(&mut clock, 99_000), 100);
+        clock.slew(1);
+        for (machine, ahead) in [(100_999, 100), (101_000, 101), (999_000, 101)] {
+            assert_eq!(rt; ahead_at(&mut clock, machine), ahead, "at {machine}");
+        }
     }
 }

@@ -16,8 +16,11 @@
 //! so a file to which nothing is written stays as it was. What can't be opened is a `ClosedSource`, a `FileSink` without
 //! a file, a link without a socket or words without a file: each call fails. `NullSink` takes all and keeps nothing.
 //!
+//! `laws_of_corrections`: a `RealClock` that is slewed by its offset never goes away from an even reference, and comes to
+//! it.
+//!
 //! The definitions stand in `specs/`: a file of its own for each object, `Calls`, `Pieces` and `SessionScript` for
-//! their parts, `Held`, `LateFile`, `CorrectedClock` and `Correction` for the adapters. Those of the traits are handed
+//! their parts, `Held`, `LateFile`, `CorrectedClock`, `Correction` and `Servo` for the adapters. Those of the traits are handed
 //! on.
 #![tactic(auto)]
 
@@ -27,6 +30,7 @@ mod closed;
 mod correction;
 mod entropy;
 mod file_sink;
+mod laws;
 mod link;
 mod pieces;
 mod random;
@@ -49,6 +53,7 @@ pub use edge_traits::{
 };
 pub use entropy::ScriptEntropy;
 pub use file_sink::FileSink;
+pub use laws::laws_of_corrections;
 pub use link::ScriptLink;
 pub use random::{RandomFile, random_file};
 pub use reader::{ReaderSource, file_source};

@@ -1,8 +1,9 @@
 //! The machine's clock.
 ghost use Rattle.std.specs.Prelude.{◌≡◌, ℕ, ◌+◌, ◌/◌, ◌<◌, ◌^◌, [], ◌∷◌, pos, IfSome, None, Option};
 ghost use Rattle.std.specs.Duration.{as_nanos};
-ghost use Rattle.edge_io.specs.CorrectedClock.{ReadsAt, slewed_at, with_step};
-ghost use Rattle.edge_traits.specs.Clock.{MadeMoves, ReadingCounts, Reads};
+ghost use Rattle.base_specs.specs.Told.{Grew};
+ghost use Rattle.edge_io.specs.CorrectedClock.{ReadsAt, slewed_at, stepped_at};
+ghost use Rattle.edge_traits.specs.Clock.{Correct, ReadingCounts, Reads};
 
 use crate::correction::Correction;
 use edge_traits::{Clock, Move, Reading};
@@ -19,8 +20,12 @@ const TICK_NANOS: u128 = 100;
 /// The machine's clock with its corrections. It tells nothing, and leaves the machine's clock as it is.
 ///
 /// A reading is what the machine's clock reads, in ticks of 100 ns since 1 January 1601, plus all steps, plus
-/// what is worked off of the slews: one tick per 2,000 ticks of the machine's clock. A further slew adds to what
-/// is left of the one before. A machine's clock that went backwards works off nothing.
+/// what is worked off of the slews: one tick per 2,000 ticks of the machine's clock. A further slew takes the place
+/// of what is left of the one before, and a step leaves nothing of it. A machine's clock that went backwards works
+/// off nothing.
+///
+/// [`laws_of_corrections`](crate::laws_of_corrections) says what that is for: a slew by the exact distance from a
+/// reference that runs evenly with the machine's clock brings the clock nearer, and then to it.
 ///
 /// It answers Failed where the machine's clock can't be had (also where it is set before 1970, which the library
 /// doesn't give), and where the sum is no reading: below 0 or above 4,000,000,000,000,000,000.
@@ -75,6 +80,16 @@ impl<R: rt::Clock + Drop> RealClock<R> {
         Reading::Failed
     }
 
+    /// Moves the clock at once, where the machine's clock reads so many ticks or can't be had.
+    fn step_at(&mut self, machine: Option<u128>, amount: i64)
+        ensures { self.new ≡ stepped_at machine amount self.old }
+    {
+        if let Some(machine) = machine {
+            self.correction.look(machine);
+        }
+        self.correction.step(amount);
+    }
+
     /// Begins to move the clock bit by bit, where the machine's clock reads so many ticks or can't be had.
     fn slew_at(&mut self, machine: Option<u128>, amount: i64)
         ensures { self.new ≡ slewed_at machine amount self.old }
@@ -102,17 +117,19 @@ impl<R: rt::Clock + Drop> Clock for RealClock<R> {
         self.read_at(machine)
     }
 
+    // Where the machine's clock can't be had, what was worked off is what was due when it was last looked at.
     fn step(&mut self, amount: i64)
-        ensures moves { MadeMoves None None (Move.Step amount ∷ []) }
+        ensures moves { Grew None None (Correct (Move.Step amount) ∷ []) }
         ensures cause { self.new.faults ≡ self.old.faults }
-        ensures correction { self.new ≡ with_step amount self.old }
+        ensures correction { (machine : Option ℕ) × (self.new ≡ stepped_at machine amount self.old) }
     {
-        self.correction.step(amount);
+        let machine = machine_ticks(&self.rt);
+        self.step_at(machine, amount);
     }
 
     // Where the machine's clock can't be had, the slew begins when it was last looked at.
     fn slew(&mut self, amount: i64)
-        ensures moves { MadeMoves None None (Move.Slew amount ∷ []) }
+        ensures moves { Grew None None (Correct (Move.Slew amount) ∷ []) }
         ensures cause { self.new.faults ≡ self.old.faults }
         ensures correction { (machine : Option ℕ) × (self.new ≡ slewed_at machine amount self.old) }
     {
@@ -189,6 +206,12 @@ mod tests {
         clock.slew(-2);
         clock.rt.since_1970 = Some(Duration::from_micros(2_600));
         assert_eq!(rt; clock.now(), Reading::At(EPOCH + 25_995));
+        // A further slew takes the place of the last tick, and a step that of the last three.
+        clock.slew(-5);
+        clock.rt.since_1970 = Some(Duration::from_micros(3_000));
+        clock.step(10);
+        clock.rt.since_1970 = Some(Duration::from_micros(9_000));
+        assert_eq!(rt; clock.now(), Reading::At(EPOCH + 90_003));
         clock.rt.since_1970 = None;
         assert_eq!(rt; clock.now(), Reading::Failed);
         assert_eq!(rt; clock.faults, 1);

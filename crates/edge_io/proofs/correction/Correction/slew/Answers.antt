@@ -1,5 +1,5 @@
 use Rattle.std.proofs.Common.{◌≡◌, ap, ◌∙◌, to_z, of_z, rules}
-use Rattle.std.specs.Int.{w128}
+use Rattle.std.specs.Int.{w64, w128}
 use Rattle.edge_io.specs.Correction.{Correction, ahead_of, slewed_by}
 use Rattle.edge_io.proofs.Slews.{ahead_of-slewed_by}
 use Rattle.edge_io.proofs.correction.Correction.slew.Goals as goal
@@ -8,8 +8,8 @@ pub returns-clause-kept : goal.returns-clause-kept
 returns-clause-kept c =
     let new : Correction = record {
       moved = to_z w128 (of_z w128 c.ahead-self-inside.result);
-      slew = to_z w128 (of_z w128 c.saturating_add-self-inside.result);
-      passed = c.counted_on-self-inside.result;
+      slew = to_z w64 (of_z w64 c.args.amount);
+      passed = 0;
       seen = c.self.inside.seen;
     } in
     let same : new ≡ slewed_by c.args.amount c.args.self.now = search rules in
