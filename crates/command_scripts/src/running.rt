@@ -97,7 +97,7 @@ fn carry_out(alloc: Global, words: &Vec<String>, mut devices: Devices) -> Ran {
 }
 
 /// The words as a command line has them.
-fn words_of(alloc: Global, texts: &[&str]) -> Result<Vec<String>, AllocError> {
+pub(crate) fn words_of(alloc: Global, texts: &[&str]) -> Result<Vec<String>, AllocError> {
     let mut words = Vec::new(alloc);
     for text in texts {
         words.push(String::from_str(alloc, text)?)?;
@@ -106,7 +106,7 @@ fn words_of(alloc: Global, texts: &[&str]) -> Result<Vec<String>, AllocError> {
 }
 
 /// The devices that do what the script says.
-fn devices_of(alloc: Global, input: &[u8], script: &Script) -> Result<Devices, Fail> {
+pub(crate) fn devices_of(alloc: Global, input: &[u8], script: &Script) -> Result<Devices, Fail> {
     let (config, capture_in) = sources_of(alloc, input, script)?;
     let (out, capture_out) = sinks_of(alloc, script)?;
     let link = link_of(alloc, script.came, script.failing)?;

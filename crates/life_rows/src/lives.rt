@@ -528,3 +528,51 @@ fn calls_of_a_run(rt: HostRuntime) -> Result<(), Fail> {
     assert_eq!(rt; objects.clock.moves(), [Move::Slew(29_000_000)].as_slice());
     Ok(())
 }
+
+// The replies to the first and to the second request, by a clock that is an hour and a second ahead, made as the one above.
+const AN_HOUR: [u8; 68] = *b"\x1C\x01\x0A\xE9\0\0\0\0\0\0\0\0LOCL\xE1\xB6\x6D\x90\0\0\0\0\
+\0\0\0\x01\0\0\0\x01\xE1\xB6\x6D\x90\0\0\0\0\xE1\xB6\x6D\x90\0\x41\x89\x38\x4F\x04\0\0\
+\x83\xCB\x11\x0D\x9A\x3D\x7E\x07\xE3\x83\xB2\xC5\x06\xC5\x2A\xB4";
+
+const A_SECOND: [u8; 68] = *b"\x1C\x01\x0A\xE9\0\0\0\0\0\0\0\0LOCL\xE1\xB6\x63\x81\0\0\0\0\
+\0\0\0\x02\0\0\0\x02\xE1\xB6\x63\x81\0\0\0\0\xE1\xB6\x63\x81\0\x41\x89\x38\x4F\x04\0\0\
+\x88\xC7\xB9\xE2\x12\x7A\xC0\x06\xA3\x67\x6D\x19\xF0\x92\x27\x95";
+
+const STEP_TIMES: &[i64] = &[R0, R0, R0 + 2_010_000, R0 + TURN, R0 + TURN + 2_010_000];
+
+/// Both replies.
+fn step_receipts(alloc: Global) -> Result<Vec<Receipt>, AllocError>
+    ensures { IfOk result (λ receipts. All IsNoFailure receipts.items) }
+{
+    let mut receipts = Vec::new(alloc);
+    receipts.push(Receipt::Got(FIRST, Datagram::from_slice(&AN_HOUR)))?;
+    receipts.push(Receipt::Got(FIRST, Datagram::from_slice(&A_SECOND)))?;
+    Ok(receipts)
+}
+
+// The second Tick is before the moment to which the step moved the clock, and sends at once.
+#[test]
+fn a_step_and_the_next_tick(rt: HostRuntime) -> Result<(), Fail> {
+    let readings = readings_among(rt.alloc(), STEP_TIMES)?;
+    let receipts = step_receipts(rt.alloc())?;
+    let mut objects = objects_of(rt.alloc(), receipts, readings, Failing::default())?;
+    let end = live(
+        conf_of(rt.alloc())?,
+        2,
+        &mut objects.link,
+        &mut objects.clock,
+        &mut objects.disk,
+        &mut objects.entropy,
+        &mut objects.out,
+        &mut objects.capture,
+    );
+    assert_eq!(rt;
+        (end.why, end.sent, objects.clock.moves()),
+        (
+            Why::Done,
+            2,
+            [Move::Step(35_999_000_000), Move::Slew(9_000_000)].as_slice()
+        )
+    );
+    Ok(())
+}

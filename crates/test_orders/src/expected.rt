@@ -1,0 +1,102 @@
+//! Runs that are compared with the word of their calls.
+use command_scripts::{Device, Ordered, Script, call_at, run_in_order};
+use std::alloc::{AllocError, Global};
+use std::process::Abort;
+use std::test::Fail;
+use w32tm_cmd::Status;
+
+/// A run: its words, its input and what its devices do.
+#[derive(Clone, Copy)]
+pub(crate) struct Run<'a> {
+    pub words: &'a [&'a str],
+    pub input: &'a [u8],
+    pub script: Script<'a>,
+}
+
+/// Letters, and how often they come, one after the other.
+pub(crate) type Part<'a> = (usize, &'a str);
+
+/// The whole word.
+pub(crate) fn word_of(alloc: Global, parts: &[Part]) -> Result<Vec<u8>, AllocError> {
+    let mut word = Vec::new(alloc);
+    for (times, letters) in parts {
+        for _ in 0..*times {
+            word.extend_from_slice(letters.as_bytes())?;
+        }
+    }
+    Ok(word)
+}
+
+fn ordered(alloc: Global, run: &Run) -> Result<Ordered, Fail> {
+    run_in_order(alloc, run.words, run.input, &run.script)
+}
+
+/// The run is done, and makes these calls in this order.
+pub(crate) fn expect_order(
+    rt: &impl Abort,
+    alloc: Global,
+    run: &Run,
+    word: &[u8],
+) -> Result<(), Fail> {
+    let ran = ordered(alloc, run)?;
+    assert_eq!(rt; (ran.status, ran.letters.as_slice()), (Status::Done, word));
+    Ok(())
+}
+
+/// How a run ends of whose devices this one fails.
+fn status_of(device: Device) -> Status {
+    match device {
+        Device::Config | Device::Input => Status::ReadFault,
+        Device::Out | Device::Capture => Status::WriteFault,
+        Device::Link => Status::Done,
+        Device::Clock => Status::ClockFault,
+        Device::Disk => Status::DiskFault,
+        Device::Entropy => Status::EntropyFault,
+    }
+}
+
+/// Where the call at this place fails, the calls before it are the same, and it is the last one, but for a send or a
+/// receive.
+fn expect_fault(
+    rt: &impl Abort,
+    alloc: Global,
+    run: &Run,
+    word: &[u8],
+    place: usize,
+) -> Result<(), Fail> {
+    let Some((device, call)) = call_at(word, place) else {
+        return Ok(());
+    };
+    let mut failing = run.script.failing.to_vec(alloc)?;
+    failing.push((device, call))?;
+    let script = Script {
+        failing: &failing,
+        ..run.script
+    };
+    let ran = ordered(alloc, &Run { script, ..*run })?;
+    let front = ran.letters.get(..=place);
+    let is_last = ran.letters.len() == place + 1;
+    assert_eq!(rt;
+        (ran.status, front, is_last),
+        (
+            status_of(device),
+            word.get(..=place),
+            device != Device::Link
+        ),
+        "call {place}"
+    );
+    Ok(())
+}
+
+/// The same of each call of the run.
+pub(crate) fn expect_faults(
+    rt: &impl Abort,
+    alloc: Global,
+    run: &Run,
+    word: &[u8],
+) -> Result<(), Fail> {
+    for place in 0..word.len() {
+        expect_fault(rt, alloc, run, word, place)?;
+    }
+    Ok(())
+}

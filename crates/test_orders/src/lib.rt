@@ -1,0 +1,16 @@
+//! In which order each command calls its devices, seen over all devices together. Tests alone: nothing here is shipped.
+//!
+//! The devices number their calls together, so that a run is one word, a letter a call. Each word was put together by hand
+//! from the rules of the command. `expected.rt` compares a run with its word; and makes each call of it fail in its turn:
+//! a failing call is the last one, but for a send or a receive. `member.rt` has a run of a member with a step, a slew, a
+//! refused reply, a change of partner and a second block of counts; `others.rt` the other commands.
+//!
+//! It stands on `command_scripts` for the devices and the top call.
+#![tactic(auto)]
+
+#[cfg(test)]
+mod expected;
+#[cfg(test)]
+mod member;
+#[cfg(test)]
+mod others;
