@@ -6,11 +6,9 @@ use Rattle.std.proofs.lemmas.List.{append-nil, map-append}
 use Rattle.std.proofs.lemmas.List.Elements.{All-nil, All-push}
 use Rattle.base_specs.specs.Counts.{FailsTimes, Rose}
 use Rattle.base_specs.proofs.Counting.{fails_more, fails_none}
-use Rattle.edge_traits.specs.Link.{failed_receipts, failed_sends}
-use Rattle.edge_traits.specs.declared.link.Receipt.{Receipt}
-use Rattle.edge_traits.specs.declared.link.Tried.{Tried}
+use Rattle.base_specs.proofs.Telling.{grew_more, grew_none}
 use Rattle.edge_traits.proofs.Clocks.{gave_more, gave_none}
-use Rattle.edge_traits.proofs.Links.{exchanged_more, exchanged_none, failed_receipts-append, failed_sends-append}
+use Rattle.edge_traits.proofs.Links.{failed_calls-append}
 use Rattle.key_book.specs.declared.account.Account.{Account}
 use Rattle.dc_sign.specs.declared.tally.TurnOutcome.{TurnOutcome}
 use Rattle.dc_sign.specs.declared.tally.ServeEnd.{ServeEnd}
@@ -18,7 +16,7 @@ use Rattle.dc_sign.specs.declared.tally.ServeWhy.{ServeWhy}
 use Rattle.dc_sign.specs.declared.tally.ServeWhy.TheVariants.{Done, ClockFault}
 use Rattle.dc_sign.specs.Counting.{counted}
 use Rattle.dc_sign.specs.Numbers.{numbers_of}
-use Rattle.dc_sign.specs.Serving.{StopsUnread, ServeEndsBy, IsTurn, Seen, Serves, Takes, Turn, outcomes_of, readings_of, receipts_of, sends_of}
+use Rattle.dc_sign.specs.Serving.{StopsUnread, ServeEndsBy, IsTurn, Seen, Serves, Takes, Turn, link_calls, link_calls_of, outcomes_of, readings_of}
 use Rattle.dc_sign.specs.Turns.{HasServed, TakesOne, TakesTurn}
 use Rattle.dc_sign.proofs.Numbering.{numbers_more}
 
@@ -27,7 +25,7 @@ use Rattle.dc_sign.proofs.Numbering.{numbers_more}
 takes_none : (accounts : List Account) (now : Seen) → Takes accounts [] now now
 takes_none accounts now = record {
   are_turns = All-nil (IsTurn accounts);
-  exchanged = exchanged_none now.link;
+  told = grew_none now.link;
   read = gave_none now.clock;
   link_failed = fails_none now.link_faults;
   no_clock_fault = refl;
@@ -36,22 +34,17 @@ takes_none accounts now = record {
 behind_last : {A : Type 0} (f : Turn → List A) (turns : List Turn) (turn : Turn) → flat_map f (turns ++ turn ∷ []) ≡ flat_map f turns ++ f turn
 behind_last f turns turn = flat_map-append f turns (turn ∷ []) ∙ ap (λ (l : List _). flat_map f turns ++ l) (append-nil (f turn))
 
-failed_more : (given later : List Receipt) (tried next : List Tried)
-    → (failed_receipts given + failed_sends tried) + (failed_receipts later + failed_sends next) ≡ failed_receipts (given ++ later) + failed_sends (tried ++ next)
-failed_more given later tried next = omega (arith, failed_receipts-append given later, failed_sends-append tried next)
-
 takes_more : (accounts : List Account) (turns : List Turn) (turn : Turn) (before mid now : Seen) → Takes accounts turns before mid → TakesTurn accounts turn mid now
     → Takes accounts (turns ++ turn ∷ []) before now
 takes_more accounts turns turn before mid now first next =
-    let receipts : receipts_of (turns ++ turn ∷ []) ≡ receipts_of turns ++ turn.receipt ∷ [] = map-append (λ (t : Turn). t.receipt) turns (turn ∷ []) in
+    let calls : link_calls_of (turns ++ turn ∷ []) ≡ link_calls_of turns ++ link_calls turn = behind_last link_calls turns turn in
     let readings : readings_of (turns ++ turn ∷ []) ≡ readings_of turns ++ turn.readings = behind_last (λ (t : Turn). t.readings) turns turn in
-    let sends : sends_of (turns ++ turn ∷ []) ≡ sends_of turns ++ turn.sends = behind_last (λ (t : Turn). t.sends) turns turn in
     let Failed : ℕ → Type 0 = λ (n : ℕ). FailsTimes n before.link_faults now.link_faults in
     record {
       are_turns = All-push (IsTurn accounts) turns turn first.are_turns next.is_turn;
-      exchanged = rw (receipts, sends) (exchanged_more before.link mid.link now.link (sends_of turns) turn.sends (receipts_of turns) (turn.receipt ∷ []) first.exchanged next.exchanged);
+      told = rw calls (grew_more before.link mid.link now.link (link_calls_of turns) (link_calls turn) first.told next.told);
       read = rw readings (gave_more before.clock mid.clock now.clock (readings_of turns) turn.readings first.read next.read);
-      link_failed = rw (receipts, sends) (subst Failed (failed_more (receipts_of turns) (turn.receipt ∷ []) (sends_of turns) turn.sends)
+      link_failed = rw calls (subst Failed (sym (failed_calls-append (link_calls_of turns) (link_calls turn)))
           (fails_more _ _ before.link_faults mid.link_faults now.link_faults first.link_failed next.link_failed));
       no_clock_fault = next.no_clock_fault ∙ first.no_clock_fault;
     }

@@ -1,9 +1,10 @@
 -- A run of a controller: turn by turn one receipt, and what came of it.
-use Rattle.std.specs.Prelude.{◌≡◌, ◌+◌, ◌<◌, ℕ, ℤ, List, [], ◌∷◌, All, length, map, Option, Some}
+use Rattle.std.specs.Prelude.{◌≡◌, ◌<◌, ℕ, ℤ, List, [], ◌∷◌, All, length, map, Option, Some}
 use Rattle.std.specs.List.{flat_map}
 use Rattle.base_specs.specs.Counts.{Fails, FailsTimes}
-use Rattle.edge_traits.specs.Clock.{ClockTold, GaveReadings}
-use Rattle.edge_traits.specs.Link.{Exchanged, LinkTold, failed_receipts, failed_sends}
+use Rattle.base_specs.specs.Told.{Grew}
+use Rattle.edge_traits.specs.Clock.{ClockCall, GaveReadings}
+use Rattle.edge_traits.specs.Link.{LinkCall, Receive, Send, failed_calls}
 use Rattle.edge_traits.specs.declared.datagram.Addr.{Addr}
 use Rattle.edge_traits.specs.declared.link.Receipt.{Receipt}
 use Rattle.edge_traits.specs.declared.link.Receipt.TheVariants as receipt
@@ -25,13 +26,13 @@ use Rattle.dc_sign.specs.Reply.{Answers, refusal_of}
 
 -- what a link and a clock tell at a moment, and how often their calls have failed
 pub record Seen : Type 0 where
-  pub link : Option LinkTold
+  pub link : Option (List LinkCall)
   pub link_faults : ℕ
-  pub clock : Option ClockTold
+  pub clock : Option (List ClockCall)
   pub clock_faults : ℕ
 
 -- these four put together
-abbrev pub seen : Option LinkTold → ℕ → Option ClockTold → ℕ → Seen
+abbrev pub seen : Option (List LinkCall) → ℕ → Option (List ClockCall) → ℕ → Seen
 seen link link_faults clock clock_faults = record { link = link; link_faults = link_faults; clock = clock; clock_faults = clock_faults }
 
 -- ---- One turn
@@ -88,29 +89,29 @@ IsTurn accounts turn = IsTurnOf accounts turn turn.outcome
 
 -- ---- Turns, one after the other
 
--- the receipts of turns, one each
-abbrev pub receipts_of : List Turn → List Receipt
-receipts_of turns = map (λ (turn : Turn). turn.receipt) turns
+-- the calls of the link in a turn: its receipt, and then its sends
+abbrev pub link_calls : Turn → List LinkCall
+link_calls turn = Receive turn.receipt ∷ map Send turn.sends
+
+-- the calls of the link in turns, one turn after the other
+abbrev pub link_calls_of : List Turn → List LinkCall
+link_calls_of turns = flat_map link_calls turns
 
 -- the readings of turns, one after the other
 abbrev pub readings_of : List Turn → List ℤ
 readings_of turns = flat_map (λ (turn : Turn). turn.readings) turns
 
--- the sends tried in turns, one after the other
-abbrev pub sends_of : List Turn → List Tried
-sends_of turns = flat_map (λ (turn : Turn). turn.sends) turns
-
 -- the outcomes of turns, one each
 abbrev pub outcomes_of : List Turn → List TurnOutcome
 outcomes_of turns = map (λ (turn : Turn). turn.outcome) turns
 
--- These turns were taken: their receipts, readings and sends are all that link and clock gave and took. The clock
--- was not moved, none of its readings failed, and the link failed as often as receipts and sends say.
+-- These turns were taken, one after the other: each was received and answered before the next. Their calls and
+-- readings are all that link and clock tell. No reading failed, and the link failed as often as its calls say.
 pub record Takes (accounts : List Account) (turns : List Turn) (before now : Seen) : Type 0 where
   pub are_turns : All (IsTurn accounts) turns
-  pub exchanged : Exchanged before.link now.link (sends_of turns) (receipts_of turns)
+  pub told : Grew before.link now.link (link_calls_of turns)
   pub read : GaveReadings before.clock now.clock (readings_of turns)
-  pub link_failed : FailsTimes (failed_receipts (receipts_of turns) + failed_sends (sends_of turns)) before.link_faults now.link_faults
+  pub link_failed : FailsTimes (failed_calls (link_calls_of turns)) before.link_faults now.link_faults
   pub no_clock_fault : now.clock_faults ≡ before.clock_faults
 
 -- A datagram came, and the first or the second reading failed: nothing was sent for it.
@@ -118,7 +119,7 @@ pub record StopsUnread (before now : Seen) : Type 0 where
   pub from : Addr
   pub request : List ℕ
   pub given : List ℤ
-  pub got : Exchanged before.link now.link [] (receipt.Got from request ∷ [])
+  pub got : Grew before.link now.link (Receive (receipt.Got from request) ∷ [])
   pub no_link_fault : now.link_faults ≡ before.link_faults
   pub read : GaveReadings before.clock now.clock given
   pub fewer : length given < 2

@@ -1,21 +1,22 @@
 -- What one turn does with link and clock.
-use Rattle.std.specs.Prelude.{◌≡◌, ◌+◌, ℕ, List, [], ◌∷◌, length}
+use Rattle.std.specs.Prelude.{◌≡◌, ℕ, List, length}
 use Rattle.base_specs.specs.Counts.{FailsTimes}
+use Rattle.base_specs.specs.Told.{Grew}
 use Rattle.edge_traits.specs.Clock.{GaveReadings}
-use Rattle.edge_traits.specs.Link.{Exchanged, failed_receipts, failed_sends}
+use Rattle.edge_traits.specs.Link.{failed_calls}
 use Rattle.key_book.specs.declared.account.Account.{Account}
 use Rattle.dc_sign.specs.declared.tally.TurnOutcome.{TurnOutcome}
 use Rattle.dc_sign.specs.declared.tally.ServeEnd.{ServeEnd}
 use Rattle.dc_sign.specs.declared.tally.ServeWhy.TheVariants.{Done}
 use Rattle.dc_sign.specs.Numbers.{numbers_of}
-use Rattle.dc_sign.specs.Serving.{IsTurn, Seen, Takes, Turn, outcomes_of}
+use Rattle.dc_sign.specs.Serving.{IsTurn, Seen, Takes, Turn, link_calls, outcomes_of}
 
 -- this turn was taken
 pub record TakesTurn (accounts : List Account) (turn : Turn) (before now : Seen) : Type 0 where
   pub is_turn : IsTurn accounts turn
-  pub exchanged : Exchanged before.link now.link turn.sends (turn.receipt ∷ [])
+  pub told : Grew before.link now.link (link_calls turn)
   pub read : GaveReadings before.clock now.clock turn.readings
-  pub link_failed : FailsTimes (failed_receipts (turn.receipt ∷ []) + failed_sends turn.sends) before.link_faults now.link_faults
+  pub link_failed : FailsTimes (failed_calls (link_calls turn)) before.link_faults now.link_faults
   pub no_clock_fault : now.clock_faults ≡ before.clock_faults
 
 -- a turn was taken, of which this came

@@ -1,7 +1,8 @@
 //! Serving the requests that come over a link.
 ghost use Rattle.std.specs.Prelude.{◌≡◌, ◌≤◌, [], ◌∷◌, IfNone, IfSome};
 ghost use Rattle.base_specs.specs.Counts.{Rose};
-ghost use Rattle.edge_traits.specs.Link.{TriedSends};
+ghost use Rattle.base_specs.specs.Told.{Grew};
+ghost use Rattle.edge_traits.specs.Link.{Send};
 ghost use Rattle.edge_traits.specs.Sink.{PutCounts};
 ghost use Rattle.dc_sign.specs.declared.tally.ServeWhy.{ServeWhy};
 ghost use Rattle.dc_sign.specs.Sending.{Sends};
@@ -87,8 +88,8 @@ fn send_answer<L: Link>(link: &mut L, to: Addr, answer: &Answer) -> TurnOutcome
 
 /// Sends a reply whole.
 fn send_reply<L: Link>(link: &mut L, to: Addr, reply: &Datagram) -> Put
-    ensures tried { TriedSends (L.told link.old) (L.told link.new)
-        (record { to = to; bytes = reply.now; put = result } ∷ []) }
+    ensures told { Grew (L.told link.old) (L.told link.new)
+        (Send (record { to = to; bytes = reply.now; put = result }) ∷ []) }
     ensures counts { PutCounts result (L.faults link.old) (L.faults link.new) }
 {
     link.send(to, reply.as_slice())
