@@ -1,40 +1,33 @@
 -- What was done one after the other.
-use Rattle.std.proofs.Common.{◌≡◌, ◌+◌, ℕ, List, [], ◌∷◌, ◌++◌, sym, ◌∙◌, ap, subst, arith}
+use Rattle.std.proofs.Common.{◌≡◌, ℕ, List, [], ◌∷◌, ◌++◌, sym, ◌∙◌, ap, subst}
 use Rattle.std.specs.List.{flat_map}
 use Rattle.std.proofs.lemmas.Grind.{flat_map-append}
 use Rattle.std.proofs.lemmas.List.{append-nil}
 use Rattle.base_specs.specs.Counts.{FailsTimes}
 use Rattle.base_specs.proofs.Counting.{fails_more, fails_none}
-use Rattle.base_specs.proofs.Telling.{added_more, added_none}
-use Rattle.edge_traits.specs.Link.{failed_receipts, failed_sends}
-use Rattle.edge_traits.specs.declared.link.Receipt.{Receipt}
-use Rattle.edge_traits.specs.declared.link.Tried.{Tried}
+use Rattle.base_specs.proofs.Telling.{added_more, added_none, grew_more, grew_none}
 use Rattle.edge_traits.proofs.Clocks.{gave_more, gave_none}
-use Rattle.edge_traits.proofs.Links.{exchanged_more, exchanged_none, failed_receipts-append, failed_sends-append}
+use Rattle.edge_traits.proofs.Links.{failed_calls-append}
 use Rattle.monitor_run.specs.Asking.{Asked, Deed, Devices, Did, deed_of, deeds_of, no_deed, then}
 
 -- nothing was done
 pub did_nothing : (now : Devices) → Did no_deed now now
 did_nothing now = record {
-  exchanged = exchanged_none now.link;
+  told = grew_none now.link;
   read = gave_none now.clock;
   drew = added_none now.words;
   link_failed = fails_none now.link_faults;
 }
-
-failed_more : (tried next : List Tried) (given later : List Receipt)
-    → (failed_sends tried + failed_receipts given) + (failed_sends next + failed_receipts later) ≡ failed_sends (tried ++ next) + failed_receipts (given ++ later)
-failed_more tried next given later = omega (arith, failed_receipts-append given later, failed_sends-append tried next)
 
 -- one deed behind another
 pub did_more : (first next : Deed) (before mid now : Devices) → Did first before mid → Did next mid now → Did (then first next) before now
 did_more first next before mid now one other =
     let Failed : ℕ → Type 0 = λ (n : ℕ). FailsTimes n before.link_faults now.link_faults in
     record {
-      exchanged = exchanged_more before.link mid.link now.link first.sends next.sends first.receipts next.receipts one.exchanged other.exchanged;
+      told = grew_more before.link mid.link now.link first.link next.link one.told other.told;
       read = gave_more before.clock mid.clock now.clock first.readings next.readings one.read other.read;
       drew = added_more before.words mid.words now.words first.words next.words one.drew other.drew;
-      link_failed = subst Failed (failed_more first.sends next.sends first.receipts next.receipts)
+      link_failed = subst Failed (sym (failed_calls-append first.link next.link))
           (fails_more _ _ before.link_faults mid.link_faults now.link_faults one.link_failed other.link_failed);
     }
 
@@ -46,6 +39,5 @@ pub deeds_more : (asked : List Asked) (one : Asked) → then (deeds_of asked) (d
 deeds_more asked one =
     let readings = behind_last (λ (a : Asked). (deed_of a.entry.addr a.ask).readings) asked one in
     let words = behind_last (λ (a : Asked). (deed_of a.entry.addr a.ask).words) asked one in
-    let sends = behind_last (λ (a : Asked). (deed_of a.entry.addr a.ask).sends) asked one in
-    let receipts = behind_last (λ (a : Asked). (deed_of a.entry.addr a.ask).receipts) asked one in
-    λ i. record { readings = readings i; words = words i; sends = sends i; receipts = receipts i }
+    let link = behind_last (λ (a : Asked). (deed_of a.entry.addr a.ask).link) asked one in
+    λ i. record { readings = readings i; words = words i; link = link i }

@@ -1,10 +1,10 @@
 -- One computer after the other is asked: what link, clock and entropy gave and took for it.
-use Rattle.std.specs.Prelude.{◌+◌, ℕ, ℤ, List, [], ◌∷◌, ◌++◌, map, flat_map, Option}
+use Rattle.std.specs.Prelude.{ℕ, ℤ, List, [], ◌∷◌, ◌++◌, map, flat_map, Option}
 use Rattle.std.specs.List.{count_by}
 use Rattle.base_specs.specs.Counts.{FailsTimes}
-use Rattle.base_specs.specs.Told.{Added}
-use Rattle.edge_traits.specs.Clock.{ClockTold, GaveReadings}
-use Rattle.edge_traits.specs.Link.{Exchanged, LinkTold, failed_receipts, failed_sends}
+use Rattle.base_specs.specs.Told.{Added, Grew}
+use Rattle.edge_traits.specs.Clock.{ClockCall, GaveReadings}
+use Rattle.edge_traits.specs.Link.{LinkCall, Receive, Send, failed_calls}
 use Rattle.edge_traits.specs.declared.datagram.Addr.{Addr}
 use Rattle.edge_traits.specs.declared.link.Receipt.{Receipt}
 use Rattle.edge_traits.specs.declared.link.Receipt.TheVariants as receipt
@@ -26,15 +26,15 @@ use Rattle.monitor_run.specs.Request.{plain_request}
 
 -- what a link, a clock and a source of words tell at a moment, and how often their calls have failed
 pub record Devices : Type 0 where
-  pub link : Option LinkTold
+  pub link : Option (List LinkCall)
   pub link_faults : ℕ
-  pub clock : Option ClockTold
+  pub clock : Option (List ClockCall)
   pub clock_faults : ℕ
   pub words : Option (List ℕ)
   pub entropy_faults : ℕ
 
 -- the same, from its parts
-abbrev pub devices : Option LinkTold → ℕ → Option ClockTold → ℕ → Option (List ℕ) → ℕ → Devices
+abbrev pub devices : Option (List LinkCall) → ℕ → Option (List ClockCall) → ℕ → Option (List ℕ) → ℕ → Devices
 devices link link_faults clock clock_faults words entropy_faults = record {
   link = link;
   link_faults = link_faults;
@@ -44,42 +44,41 @@ devices link link_faults clock clock_faults words entropy_faults = record {
   entropy_faults = entropy_faults;
 }
 
--- the readings and the words that were given, the sends that were tried, and the receipts that were given
+-- the readings and the words that were given, and the calls of the link in their order
 pub record Deed : Type 0 where
   pub readings : List ℤ
   pub words : List ℕ
-  pub sends : List Tried
-  pub receipts : List Receipt
+  pub link : List LinkCall
 
 -- nothing was given, and nothing was tried
 abbrev pub no_deed : Deed
-no_deed = record { readings = []; words = []; sends = []; receipts = [] }
+no_deed = record { readings = []; words = []; link = [] }
 
 -- one after the other
 abbrev pub then : Deed → Deed → Deed
 then first next = record {
   readings = first.readings ++ next.readings;
   words = first.words ++ next.words;
-  sends = first.sends ++ next.sends;
-  receipts = first.receipts ++ next.receipts;
+  link = first.link ++ next.link;
 }
 
--- This is all that the devices gave and took. The clock was not moved, and the link failed as often as sends and
--- receipts say.
+-- This is all that the devices gave and took. The clock was not corrected, and the link failed as often as its calls
+-- say.
 pub record Did (deed : Deed) (before now : Devices) : Type 0 where
-  pub exchanged : Exchanged before.link now.link deed.sends deed.receipts
+  pub told : Grew before.link now.link deed.link
   pub read : GaveReadings before.clock now.clock deed.readings
   pub drew : Added before.words now.words deed.words
-  pub link_failed : FailsTimes (failed_sends deed.sends + failed_receipts deed.receipts) before.link_faults now.link_faults
+  pub link_failed : FailsTimes (failed_calls deed.link) before.link_faults now.link_faults
 
 -- ---- One ask
 
--- the receipt, and the reading that follows a datagram
-abbrev pub receipts_heard : Heard → List Receipt
-receipts_heard (Came from bytes at) = receipt.Got from bytes ∷ []
-receipts_heard Quiet = receipt.Quiet ∷ []
-receipts_heard Lost = receipt.Failed ∷ []
+-- the receipt that was taken
+abbrev pub receipt_heard : Heard → Receipt
+receipt_heard (Came from bytes at) = receipt.Got from bytes
+receipt_heard Quiet = receipt.Quiet
+receipt_heard Lost = receipt.Failed
 
+-- the reading behind a datagram, and none where none came
 abbrev pub readings_heard : Heard → List ℤ
 readings_heard (Came from bytes at) = at ∷ []
 readings_heard Quiet = []
@@ -93,13 +92,12 @@ words_of stamp = stamp.seconds ∷ stamp.fraction ∷ []
 abbrev pub request_sent : Addr → Stamp → Put → Tried
 request_sent to stamp put = record { to = to; bytes = plain_request stamp; put = put }
 
--- A reading, two words, the request with these as its timestamp, one receipt, and behind a datagram a reading.
+-- A reading, two words, the request with these as its timestamp, behind it one receipt, and behind a datagram a reading.
 abbrev pub deed_of : Addr → Ask → Deed
 deed_of to ask = record {
   readings = ask.at ∷ readings_heard ask.heard;
   words = words_of ask.stamp;
-  sends = request_sent to ask.stamp ask.put ∷ [];
-  receipts = receipts_heard ask.heard;
+  link = Send (request_sent to ask.stamp ask.put) ∷ Receive (receipt_heard ask.heard) ∷ [];
 }
 
 -- what was found by it
@@ -128,8 +126,7 @@ abbrev pub deeds_of : List Asked → Deed
 deeds_of asked = record {
   readings = flat_map (λ (a : Asked). (deed_of a.entry.addr a.ask).readings) asked;
   words = flat_map (λ (a : Asked). (deed_of a.entry.addr a.ask).words) asked;
-  sends = flat_map (λ (a : Asked). (deed_of a.entry.addr a.ask).sends) asked;
-  receipts = flat_map (λ (a : Asked). (deed_of a.entry.addr a.ask).receipts) asked;
+  link = flat_map (λ (a : Asked). (deed_of a.entry.addr a.ask).link) asked;
 }
 
 -- their lines

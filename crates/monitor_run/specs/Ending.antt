@@ -1,6 +1,7 @@
 -- How a run ends: behind the last entry, or at the first call of clock, entropy or sink that fails.
 use Rattle.std.specs.Prelude.{◌≡◌, ◌<◌, ◌≤◌, ◌⊎◌, ℕ, ℤ, Bool, true, false, List, [], ◌∷◌, length, take}
 use Rattle.base_specs.specs.Counts.{Fails}
+use Rattle.edge_traits.specs.Link.{Receive, Send}
 use Rattle.edge_traits.specs.declared.datagram.Addr.{Addr}
 use Rattle.edge_traits.specs.declared.link.Receipt.TheVariants as receipt
 use Rattle.edge_traits.specs.declared.sink.Put.{Put}
@@ -52,8 +53,7 @@ pub record StopsAtArrival (to : Addr) (deed : Deed) : Type 0 where
   pub did : deed ≡ record {
     readings = t1 ∷ [];
     words = words_of stamp;
-    sends = request_sent to stamp put ∷ [];
-    receipts = receipt.Got from bytes ∷ [];
+    link = Send (request_sent to stamp put) ∷ Receive (receipt.Got from bytes) ∷ [];
   }
 
 -- The clock was read, and the first or the second word was not given. Nothing was sent.
@@ -61,7 +61,7 @@ pub record StopsAtDraw (deed : Deed) : Type 0 where
   pub t1 : ℤ
   pub words : List ℕ
   pub fewer : length words < 2
-  pub did : deed ≡ record { readings = t1 ∷ []; words = words; sends = []; receipts = [] }
+  pub did : deed ≡ record { readings = t1 ∷ []; words = words; link = [] }
 
 -- The first reading or the one at the arrival of a datagram failed; or a word was not given. This is what was done
 -- for the entry until then.

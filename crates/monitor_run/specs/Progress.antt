@@ -1,10 +1,10 @@
 -- What the private functions do, and what was done after some of the entries.
 use Rattle.std.specs.Prelude.{◌≡◌, ◌<◌, ℕ, List, [], ◌∷◌, length, Option, ⊤}
-use Rattle.base_specs.specs.Counts.{Fails, FailsTimes}
+use Rattle.base_specs.specs.Counts.{Fails}
 use Rattle.base_specs.specs.Time.{IsReading}
-use Rattle.base_specs.specs.Told.{Added}
-use Rattle.edge_traits.specs.Clock.{ClockTold, GaveReadings}
-use Rattle.edge_traits.specs.Link.{GaveReceipts, LinkTold, failed_receipts}
+use Rattle.base_specs.specs.Told.{Added, Grew}
+use Rattle.edge_traits.specs.Clock.{ClockCall, GaveReadings}
+use Rattle.edge_traits.specs.Link.{LinkCall, Receive, ReceiptCounts}
 use Rattle.edge_traits.specs.Sink.{Writes}
 use Rattle.edge_traits.specs.declared.datagram.Addr.{Addr}
 use Rattle.edge_traits.specs.declared.link.Receipt.TheVariants as receipt
@@ -17,7 +17,7 @@ use Rattle.monitor_run.specs.declared.asking.Heard.TheVariants.{Came, Quiet, Los
 use Rattle.monitor_run.specs.declared.finding.Finding.{Finding}
 use Rattle.monitor_run.specs.declared.why.MonitorWhy.{MonitorWhy}
 use Rattle.monitor_run.specs.declared.why.MonitorWhy.TheVariants.{ClockFault, EntropyFault, WriteFault}
-use Rattle.monitor_run.specs.Asking.{Asked, Deed, Devices, Did, answered_of, deed_of, deeds_of, entries_of, finding_at, lines_of, readings_heard, receipts_heard}
+use Rattle.monitor_run.specs.Asking.{Asked, Deed, Devices, Did, answered_of, deed_of, deeds_of, entries_of, finding_at, lines_of, readings_heard, receipt_heard}
 use Rattle.monitor_run.specs.Ending.{FailsIf, StopsAsking, StopsAt, is_clock_fault, is_entropy_fault, is_write_fault}
 use Rattle.monitor_run.specs.Lines.{line_of}
 use Rattle.monitor_run.specs.Monitoring.{Seen}
@@ -31,19 +31,19 @@ HeardFits Quiet = ⊤
 HeardFits Lost = ⊤
 
 -- a receipt was taken, the clock was read behind a datagram, and this came of it
-pub record Hears (heard : Heard) (old new : Option LinkTold) (faults now : ℕ) (told later : Option ClockTold) (before after : ℕ) : Type 0 where
+pub record Hears (heard : Heard) (old new : Option (List LinkCall)) (faults now : ℕ) (told later : Option (List ClockCall)) (before after : ℕ) : Type 0 where
   pub fits : HeardFits heard
-  pub gave : GaveReceipts old new (receipts_heard heard)
-  pub counts : FailsTimes (failed_receipts (receipts_heard heard)) faults now
+  pub gave : Grew old new (Receive (receipt_heard heard) ∷ [])
+  pub counts : ReceiptCounts (receipt_heard heard) faults now
   pub read : GaveReadings told later (readings_heard heard)
   pub no_clock_fault : after ≡ before
 
 -- a datagram came, and the reading behind it failed
-pub record HearsUnread (why : MonitorWhy) (old new : Option LinkTold) (faults now : ℕ) (told later : Option ClockTold) (before after : ℕ) : Type 0 where
+pub record HearsUnread (why : MonitorWhy) (old new : Option (List LinkCall)) (faults now : ℕ) (told later : Option (List ClockCall)) (before after : ℕ) : Type 0 where
   pub is : why ≡ ClockFault
   pub from : Addr
   pub bytes : List ℕ
-  pub gave : GaveReceipts old new (receipt.Got from bytes ∷ [])
+  pub gave : Grew old new (Receive (receipt.Got from bytes) ∷ [])
   pub no_link_fault : now ≡ faults
   pub unread : later ≡ told
   pub clock_failed : Fails before after
