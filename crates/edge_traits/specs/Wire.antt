@@ -84,10 +84,15 @@ with_write piece told = record told { writes = told.writes ++ record { behind = 
 abbrev pub WritesTo : List ℕ → SessionTold → SessionTold → Type 0
 WritesTo piece before now = now ≡ with_write piece before
 
+-- the session has one write more, of this front of a piece, and none where the front is empty
+abbrev pub with_front : List ℕ → SessionTold → SessionTold
+with_front [] told = told
+with_front (byte ∷ more) told = with_write (byte ∷ more) told
+
 -- a write failed, and some front of the piece was written
 abbrev pub FailsToWrite : List ℕ → SessionTold → SessionTold → Type 0
 FailsToWrite piece before now =
-    (n : ℕ) × (n ≤ length piece) × (now ≡ record (with_write (take n piece) before) { write_failed = true })
+    (n : ℕ) × (n ≤ length piece) × (now ≡ record (with_front (take n piece) before) { write_failed = true })
 
 -- A read takes the first of the bytes left of the open session, or it is at the end, or nothing. Where no session is
 -- open it is at the end. Each entry but the last stays.
