@@ -1,4 +1,5 @@
 mod Fronts
+mod Marks
 mod Servo
 mod Sessions
 mod Slews

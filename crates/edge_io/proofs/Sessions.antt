@@ -6,7 +6,7 @@ use Rattle.edge_traits.specs.declared.wire.Opened.{Opened}
 use Rattle.edge_traits.specs.declared.wire.Opened.TheVariants as opened
 use Rattle.edge_traits.specs.Wire.{fresh, is_session, Entry, Opens, Session, NoMore, Failed, SessionTold}
 use Rattle.edge_io.specs.SessionScript.{IsFresh, SessionScript}
-use Rattle.edge_io.specs.WireScript.{entries_of, open_answer, opened_in, closed_up, told_as, told_of, with_answer, with_room, IsCounted, WireScript}
+use Rattle.edge_io.specs.WireScript.{begun, entries_of, first_session, open_answer, opened_in, closed_up, told_as, told_of, with_answer, with_room, IsCounted, WireScript}
 
 -- one more answer, and what it opened
 pub opened_in-session : (answers : List Opened) → opened_in (answers ++ opened.Session ∷ []) ≡ opened_in answers + 1
@@ -113,3 +113,12 @@ keeps was now answer same none other counted =
     let counted_now : IsCounted now.earlier now.closed = subst (λ (w : WireScript). IsCounted w.earlier w.closed) same counted in
     subst (λ (c : Option SessionScript). Opens answer (told_as now.earlier now.closed c) (told_as (with_answer now.room answer now.earlier) now.closed c)) (sym none)
     (told_kept now.room answer now.earlier now.closed other counted_now)
+
+-- the wire that opened the next session tells one more entry
+pub begins : (was now : WireScript) (session : SessionScript) → was.current ≡ None → now ≡ begun was → first_session was.waiting ≡ Some session → IsFresh session
+    → Opens opened.Session (told_of was) (told_of now)
+begins was now session none is first fresh_told =
+    subst (λ (w : WireScript). Opens opened.Session (told_of was) (told_of w)) (sym is)
+    (subst (λ (c : Option SessionScript). Opens opened.Session (told_as was.earlier was.closed c) (told_as (with_room was.room was.earlier) was.closed (first_session was.waiting))) (sym none)
+    (subst (λ (c : Option SessionScript). Opens opened.Session (told_as was.earlier was.closed None) (told_as (with_room was.room was.earlier) was.closed c)) (sym first)
+    (told_begun was.room was.earlier was.closed session fresh_told)))

@@ -12,6 +12,7 @@ pub mod SessionScript
 pub mod SinkScript
 pub mod SourceScript
 pub mod WireScript
+pub mod Writes
 pub use Rattle.base_specs.specs.Counts
 pub use Rattle.base_specs.specs.Time
 pub use Rattle.base_specs.specs.Told

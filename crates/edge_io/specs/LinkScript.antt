@@ -6,14 +6,21 @@ use Rattle.edge_traits.specs.declared.link.Receipt.TheVariants as receipt
 use Rattle.edge_traits.specs.declared.link.Tried.{Tried}
 use Rattle.edge_traits.specs.declared.sink.Put.{Put}
 use Rattle.edge_traits.specs.declared.sink.Put.TheVariants as write
-use Rattle.edge_traits.specs.Link.{LinkTold}
+use Rattle.edge_traits.specs.Link.{LinkCall, Receive, Send, receipts_among, sends_among}
 use Rattle.edge_io.specs.Calls.{is_listed}
+use Rattle.edge_io.specs.declared.link.LinkEntry.{LinkEntry}
+use Rattle.edge_io.specs.declared.link.LinkEntry.TheVariants as entry
 
--- The receipts to come, what the link tells, and how many sends and how many receipts it can tell. Then the numbers
+-- the call that an entry of the list in memory stands for
+abbrev pub link_call : LinkEntry → LinkCall
+link_call (entry.Send tried) = Send tried
+link_call (entry.Receive given) = Receive given
+
+-- The receipts to come, the calls that the link tells, and how many sends and how many receipts it can tell. Then the numbers
 -- of the calls that fail, the calls made, and those of them that failed.
 pub record LinkScript : Type 0 where
   pub coming : List Receipt
-  pub told : Option LinkTold
+  pub told : Option (List LinkCall)
   pub room : ℕ
   pub fails : List ℕ
   pub calls : ℕ
@@ -37,16 +44,16 @@ abbrev pub recv_answer : LinkScript → Receipt
 recv_answer s = if is_listed s.fails (next_count s.calls) then receipt.Failed else first_receipt s.coming
 
 -- what is told with one more send; where there is no room for it, nothing from then on
-abbrev pub with_send : ℕ → Tried → Option LinkTold → Option LinkTold
+abbrev pub with_send : ℕ → Tried → Option (List LinkCall) → Option (List LinkCall)
 with_send room tried None = None
-with_send room tried (Some told) =
-    if nat_lt (length told.sends) room then Some (record told { sends = told.sends ++ tried ∷ [] }) else None
+with_send room tried (Some calls) =
+    if nat_lt (length (sends_among calls)) room then Some (calls ++ Send tried ∷ []) else None
 
 -- what is told with one more receipt; where there is no room for it, nothing from then on
-abbrev pub with_receipt : ℕ → Receipt → Option LinkTold → Option LinkTold
+abbrev pub with_receipt : ℕ → Receipt → Option (List LinkCall) → Option (List LinkCall)
 with_receipt room given None = None
-with_receipt room given (Some told) =
-    if nat_lt (length told.receipts) room then Some (record told { receipts = told.receipts ++ given ∷ [] }) else None
+with_receipt room given (Some calls) =
+    if nat_lt (length (receipts_among calls)) room then Some (calls ++ Receive given ∷ []) else None
 
 -- the count of faults behind a send
 abbrev pub faults_behind : Put → ℕ → ℕ
@@ -79,7 +86,11 @@ link_received receipt.Failed s = record s {
   faults = next_count s.faults;
 }
 
+-- the calls that are told, and none where nothing is
+abbrev pub calls_of : Option (List LinkCall) → List LinkCall
+calls_of None = []
+calls_of (Some calls) = calls
+
 -- the sends that are told
-abbrev pub sends_of : Option LinkTold → List Tried
-sends_of None = []
-sends_of (Some told) = told.sends
+abbrev pub sends_of : Option (List LinkCall) → List Tried
+sends_of told = sends_among (calls_of told)

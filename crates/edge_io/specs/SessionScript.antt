@@ -1,11 +1,11 @@
 -- What a session in memory will do.
-use Rattle.std.specs.Prelude.{◌≡◌, ◌≤◌, ℕ, ◌+◌, ◌==◌, min, Bool, true, if◌then◌else◌, List, [], ◌++◌, map, length, take, drop, nat_lt}
+use Rattle.std.specs.Prelude.{◌≡◌, ◌≤◌, ℕ, ◌+◌, ◌==◌, min, Bool, true, if◌then◌else◌, List, [], ◌∷◌, ◌++◌, map, length, take, drop, nat_lt}
 use Rattle.std.specs.List.{flat_map}
 use Rattle.edge_traits.specs.declared.sink.Put.{Put}
 use Rattle.edge_traits.specs.declared.sink.Put.TheVariants as write
 use Rattle.edge_traits.specs.declared.source.Take.{Take}
 use Rattle.edge_traits.specs.declared.source.Take.TheVariants as read
-use Rattle.edge_traits.specs.Wire.{fresh, FailsToTake, SessionTold, TakesOf}
+use Rattle.edge_traits.specs.Wire.{fresh, with_write, written_to, FailsToTake, SessionTold, TakesOf}
 use Rattle.edge_io.specs.Pieces.{piece_len, sizes_behind}
 
 -- What a session tells, the sizes of the pieces in which the bytes left of it come, and how many bytes can be
@@ -44,11 +44,11 @@ session_read read.Failed s = record s { told = record s.told { read_failed = tru
 
 -- so many more bytes can't be written: there is no room for them
 abbrev pub is_too_long : SessionScript → ℕ → Bool
-is_too_long s count = nat_lt s.room (length s.told.written + count)
+is_too_long s count = nat_lt s.room (length (written_to s.told) + count)
 
 -- what a write leaves of a session: all of the piece, or none of it and the mark
 abbrev pub session_written : Put → List ℕ → SessionScript → SessionScript
-session_written write.Done piece s = record s { told = record s.told { written = s.told.written ++ piece } }
+session_written write.Done piece s = record s { told = with_write piece s.told }
 session_written write.Failed piece s = record s { told = record s.told { write_failed = true } }
 
 -- what a read does to what a session tells

@@ -7,7 +7,8 @@
 //! An object in memory (`ScriptSource`, `ScriptSink`, `ScriptLink`, `ScriptClock`, `ScriptEntropy`, `ScriptWire`) is
 //! seen as the record of what it will do: what it has to give, its room, which of its calls fail, how many were made,
 //! and its count of faults. Beside the clauses of its trait each call says its answer and the next record by these,
-//! and leaves nothing open. A call that fails uses nothing up. The memory of the lists is taken when the object is
+//! and leaves nothing open. A call that fails uses nothing up. A link and a clock keep their calls in one list, a
+//! `LinkEntry` or `ClockEntry` each, so that their order is told. The memory of the lists is taken when the object is
 //! made.
 //!
 //! An adapter (`ReaderSource`, `WriterSink`, `FileSink`, `RealClock`, `UdpLink`, `RandomFile`) tells nothing, and says
@@ -19,9 +20,9 @@
 //! `laws_of_corrections`: a `RealClock` that is slewed by its offset never goes away from an even reference, and comes to
 //! it.
 //!
-//! The definitions stand in `specs/`: a file of its own for each object, `Calls`, `Pieces` and `SessionScript` for
-//! their parts, `Held`, `LateFile`, `CorrectedClock`, `Correction` and `Servo` for the adapters. Those of the traits are handed
-//! on.
+//! The definitions stand in `specs/`: a file of its own for each object, `Calls`, `Pieces`, `Writes` and `SessionScript`
+//! for their parts, `Held`, `LateFile`, `CorrectedClock`, `Correction` and `Servo` for the adapters. Those of the traits
+//! are handed on.
 #![tactic(auto)]
 
 mod calls;
@@ -44,8 +45,9 @@ mod tests;
 mod udp_link;
 mod wire;
 mod writer;
+mod writes;
 
-pub use clock::ScriptClock;
+pub use clock::{ClockEntry, ScriptClock};
 pub use closed::ClosedSource;
 pub use edge_traits::{
     Addr, Clock, DATAGRAM_LEN, Datagram, Drawn, Entropy, Filled, Link, Move, Opened, Put, Reading,
@@ -54,7 +56,7 @@ pub use edge_traits::{
 pub use entropy::ScriptEntropy;
 pub use file_sink::FileSink;
 pub use laws::laws_of_corrections;
-pub use link::ScriptLink;
+pub use link::{LinkEntry, ScriptLink};
 pub use random::{RandomFile, random_file};
 pub use reader::{ReaderSource, file_source};
 pub use real_clock::RealClock;

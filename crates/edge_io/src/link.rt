@@ -1,8 +1,9 @@
 //! Datagrams from memory.
-ghost use Rattle.std.specs.Prelude.{◌≡◌, [], ◌∷◌, All, IfOk, IfSome, Some, drop, take};
-ghost use Rattle.edge_io.specs.LinkScript.{first_receipt, link_received, link_sent, recv_answer, send_answer, sends_of};
-ghost use Rattle.edge_io.specs.LinkScript.{with_receipt, with_send, IsNoFailure};
-ghost use Rattle.edge_traits.specs.Link.{GaveReceipts, ReceiptCounts, ReceiptFits, TriedSends};
+ghost use Rattle.std.specs.Prelude.{◌≡◌, [], ◌∷◌, All, IfOk, IfSome, Some, drop, map, take};
+ghost use Rattle.base_specs.specs.Told.{Grew};
+ghost use Rattle.edge_io.specs.LinkScript.{calls_of, first_receipt, link_call, link_received, link_sent};
+ghost use Rattle.edge_io.specs.LinkScript.{recv_answer, send_answer, sends_of, with_receipt, with_send, IsNoFailure};
+ghost use Rattle.edge_traits.specs.Link.{Receive, ReceiptCounts, ReceiptFits, Send, sends_among};
 ghost use Rattle.edge_traits.specs.Sink.{PutCounts};
 
 use crate::NoMemory;
@@ -11,16 +12,26 @@ use edge_traits::{Addr, Datagram, Link, Put, Receipt, Tried};
 use std::alloc::Global;
 use std::marker::Model;
 
+/// A call of a link in memory, with what came of it.
+#[derive(Drop)]
+pub enum LinkEntry {
+    /// A send that was tried.
+    Send(Tried),
+    /// A receive, and what it gave.
+    Receive(Receipt),
+}
+
 /// Receipts from memory, and quiet ones behind the last. Sends are done, and go nowhere.
 ///
 /// The calls are counted from 1, sends and receives together, and those whose numbers are listed answer Failed: the
-/// receipt is there for the next receive. The link tells the sends tried and the receipts given until there is no
-/// room for another send, or none for another receipt. From then on it tells nothing.
+/// receipt is there for the next receive. The link tells its calls in their order until there is no room for another
+/// send, or none for another receipt. From then on it tells nothing.
 #[derive(Drop)]
 pub struct ScriptLink {
     receipts: Vec<Receipt>,
     next: usize,
-    given: Vec<Receipt>,
+    entries: Vec<LinkEntry>,
+    /// The sends among the entries.
     sent: Vec<Tried>,
     room: usize,
     is_telling: bool,
@@ -28,16 +39,16 @@ pub struct ScriptLink {
 }
 
 impl Model for ScriptLink {
-    ghost use Rattle.std.specs.Prelude.{◌≤◌, All, length, drop, Some, None, if◌then◌else◌, vec_capacity};
-    ghost use Rattle.edge_io.specs.LinkScript.{IsNoFailure, LinkScript};
+    ghost use Rattle.std.specs.Prelude.{◌≡◌, ◌+◌, ◌≤◌, All, length, drop, map, Some, None};
+    ghost use Rattle.std.specs.Prelude.{if◌then◌else◌, vec_capacity};
+    ghost use Rattle.edge_io.specs.LinkScript.{link_call, IsNoFailure, LinkScript};
+    ghost use Rattle.edge_traits.specs.Link.{receipts_among, sends_among};
 
     ghost Value = { LinkScript };
 
     ghost view = { λ l. record {
       coming = drop l.next l.receipts.items;
-      told = if l.is_telling
-          then Some (record { sends = l.sent.items; receipts = l.given.items })
-          else None;
+      told = if l.is_telling then Some (map link_call l.entries.items) else None;
       room = l.room;
       fails = l.calls.fails.items;
       calls = l.calls.made;
@@ -46,10 +57,13 @@ impl Model for ScriptLink {
 
     ghost invariant = { λ l. (l.next ≤ length l.receipts.items)
         × All IsNoFailure l.receipts.items
-        × (length l.given.items ≤ l.room)
+        × (l.sent.items ≡ sends_among (map link_call l.entries.items))
+        × (length l.entries.items
+        ≡ length l.sent.items + length (receipts_among (map link_call l.entries.items)))
         × (length l.sent.items ≤ l.room)
-        × (l.room ≤ vec_capacity l.given)
-        × (l.room ≤ vec_capacity l.sent) };
+        × (length l.entries.items ≤ length l.sent.items + l.room)
+        × (l.room ≤ vec_capacity l.sent)
+        × (l.room + l.room ≤ vec_capacity l.entries) };
 }
 
 impl ScriptLink {
@@ -66,17 +80,19 @@ impl ScriptLink {
         requires { All IsNoFailure receipts.items }
         ensures script { IfOk result (λ l. l ≡ record {
           coming = receipts.items;
-          told = Some (record { sends = []; receipts = [] });
+          told = Some [];
           room = room;
           fails = fails.items;
           calls = 0;
           faults = 0;
         }) }
-        ensures told { IfOk result
-            (λ l. ⟦<ScriptLink as Link>⟧.told l ≡ Some (record { sends = []; receipts = [] })) }
+        ensures told { IfOk result (λ l. ⟦<ScriptLink as Link>⟧.told l ≡ Some []) }
         ensures faults { IfOk result (λ l. ⟦<ScriptLink as Link>⟧.faults l ≡ 0) }
     {
-        let Ok(given) = Vec::with_capacity(alloc, room) else {
+        let Some(both) = room.checked_add(room) else {
+            return Err(NoMemory);
+        };
+        let Ok(entries) = Vec::with_capacity(alloc, both) else {
             return Err(NoMemory);
         };
         let Ok(sent) = Vec::with_capacity(alloc, room) else {
@@ -85,7 +101,7 @@ impl ScriptLink {
         Ok(ScriptLink {
             receipts,
             next: 0,
-            given,
+            entries,
             sent,
             room,
             is_telling: true,
@@ -97,11 +113,20 @@ impl ScriptLink {
         })
     }
 
+    /// The calls made, the oldest first, and none once the link tells nothing.
+    pub fn calls(&self) -> &[LinkEntry]
+        ensures script { map link_call result.now ≡ calls_of self.now.told }
+        ensures told { IfSome (⟦<ScriptLink as Link>⟧.told self.now)
+            (λ calls. map link_call result.now ≡ calls) }
+    {
+        if self.is_telling { &self.entries } else { &[] }
+    }
+
     /// The sends tried, and none once the link tells nothing.
     pub fn sends(&self) -> &[Tried]
         ensures script { result.now ≡ sends_of self.now.told }
         ensures told { IfSome (⟦<ScriptLink as Link>⟧.told self.now)
-            (λ told. result.now ≡ told.sends) }
+            (λ calls. result.now ≡ sends_among calls) }
     {
         if self.is_telling { &self.sent } else { &[] }
     }
@@ -122,12 +147,18 @@ impl ScriptLink {
     }
 
     /// Tells a send, or nothing from now on.
-    fn keep_send(&mut self, tried: Tried)
+    fn keep_send(&mut self, to: Addr, bytes: &Datagram, put: Put)
         ensures { self.new ≡ record self.old {
-          told = with_send self.old.room tried self.old.told;
+          told = with_send self.old.room (record { to = to; bytes = bytes.now; put = put })
+              self.old.told;
         } }
     {
-        if self.sent.len() >= self.room || self.sent.push(tried).is_err() {
+        let tried = tried_send(to, bytes, put);
+        let entry = LinkEntry::Send(tried_send(to, bytes, put));
+        if self.sent.len() >= self.room
+            || self.entries.push(entry).is_err()
+            || self.sent.push(tried).is_err()
+        {
             self.is_telling = false;
         }
     }
@@ -138,9 +169,22 @@ impl ScriptLink {
           told = with_receipt self.old.room receipt self.old.told;
         } }
     {
-        if self.given.len() >= self.room || self.given.push(receipt).is_err() {
+        if self.entries.len() - self.sent.len() >= self.room
+            || self.entries.push(LinkEntry::Receive(receipt)).is_err()
+        {
             self.is_telling = false;
         }
+    }
+}
+
+/// A send of these bytes, and what came of it.
+fn tried_send(to: Addr, bytes: &Datagram, put: Put) -> Tried
+    ensures { result ≡ record { to = to; bytes = bytes.now; put = put } }
+{
+    Tried {
+        to,
+        bytes: bytes.copy(),
+        put,
     }
 }
 
@@ -150,8 +194,8 @@ impl Link for ScriptLink {
     ghost faults = { λ l. l.faults };
 
     fn send(&mut self, to: Addr, bytes: &[u8]) -> Put
-        ensures sends { TriedSends self.old.told self.new.told
-            (record { to = to; bytes = take 256 bytes.now; put = result } ∷ []) }
+        ensures sends { Grew self.old.told self.new.told
+            (Send (record { to = to; bytes = take 256 bytes.now; put = result }) ∷ []) }
         ensures cause { PutCounts result self.old.faults self.new.faults }
         ensures answer { result ≡ send_answer self.old }
         ensures script { self.new ≡ link_sent
@@ -162,14 +206,13 @@ impl Link for ScriptLink {
         } else {
             Put::Done
         };
-        let bytes = Datagram::from_slice(bytes);
-        self.keep_send(Tried { to, bytes, put });
+        self.keep_send(to, &Datagram::from_slice(bytes), put);
         put
     }
 
     fn recv(&mut self) -> Receipt
         ensures fits { ReceiptFits result }
-        ensures gives { GaveReceipts self.old.told self.new.told (result ∷ []) }
+        ensures gives { Grew self.old.told self.new.told (Receive result ∷ []) }
         ensures cause { ReceiptCounts result self.old.faults self.new.faults }
         ensures answer { result ≡ recv_answer self.old }
         ensures script { self.new ≡ link_received result self.old }

@@ -87,6 +87,13 @@ impl Pieces {
         }
     }
 
+    /// How many bytes were given.
+    pub(crate) fn given_len(&self) -> usize
+        ensures { result ≡ length self.now.given }
+    {
+        self.at
+    }
+
     /// Nothing is left.
     pub(crate) fn is_used_up(&self) -> bool
         ensures { result ≡ (length self.now.left == 0) }

@@ -3,9 +3,11 @@ ghost use Rattle.std.specs.Prelude.{◌≡◌, ◌<◌, ◌||◌, if◌then◌el
 ghost use Rattle.edge_io.specs.SessionScript.{is_too_long, session_answer, session_of, session_read, session_written};
 ghost use Rattle.edge_io.specs.SessionScript.{IsFresh, ReadsSession};
 ghost use Rattle.edge_io.specs.SourceScript.{buffer_after};
+ghost use Rattle.edge_traits.specs.Wire.{written_to};
 
 use crate::NoMemory;
 use crate::pieces::Pieces;
+use crate::writes::Writes;
 use edge_traits::{Put, Take};
 use std::alloc::Global;
 use std::marker::Model;
@@ -14,14 +16,12 @@ use std::marker::Model;
 #[derive(Drop)]
 pub(crate) struct HeldSession {
     pieces: Pieces,
-    written: Vec<u8>,
-    room: usize,
+    writes: Writes,
     read_failed: bool,
     write_failed: bool,
 }
 
 impl Model for HeldSession {
-    ghost use Rattle.std.specs.Prelude.{◌≤◌, length, vec_capacity};
     ghost use Rattle.edge_io.specs.SessionScript.{SessionScript};
 
     ghost Value = { SessionScript };
@@ -30,16 +30,13 @@ impl Model for HeldSession {
       told = record {
         taken = s.pieces.given;
         left = s.pieces.left;
-        written = s.written.items;
+        writes = s.writes.list;
         read_failed = s.read_failed;
         write_failed = s.write_failed;
       };
       sizes = s.pieces.sizes;
-      room = s.room;
+      room = s.writes.room;
     } };
-
-    ghost invariant = { λ s. (length s.written.items ≤ s.room)
-        × (s.room ≤ vec_capacity s.written) };
 }
 
 impl HeldSession {
@@ -61,16 +58,12 @@ impl HeldSession {
                 return Err(NoMemory);
             }
         }
-        match Vec::with_capacity(alloc, room) {
-            Ok(written) => Ok(HeldSession {
-                pieces: Pieces::new(bytes, sizes),
-                written,
-                room,
-                read_failed: false,
-                write_failed: false,
-            }),
-            Err(_) => Err(NoMemory),
-        }
+        Ok(HeldSession {
+            pieces: Pieces::new(bytes, sizes),
+            writes: Writes::new(alloc, room)?,
+            read_failed: false,
+            write_failed: false,
+        })
     }
 
     /// Reads, and fails where it is to.
@@ -94,14 +87,12 @@ impl HeldSession {
 
     /// Writes, and fails where it is to and where there is no room.
     pub(crate) fn write(&mut self, piece: &[u8], is_due: bool) -> Put
+        requires { 0 < length piece.now }
         ensures answer { result
             ≡ (if is_due || is_too_long self.old (length piece.now) then Put.Failed else Put.Done) }
         ensures script { self.new ≡ session_written result piece.now self.old }
     {
-        if is_due
-            || self.room - self.written.len() < piece.len()
-            || self.written.extend_from_slice(piece).is_err()
-        {
+        if is_due || !self.writes.add(self.pieces.given_len(), piece) {
             self.write_failed = true;
             return Put::Failed;
         }
@@ -110,8 +101,8 @@ impl HeldSession {
 
     /// The bytes written.
     pub(crate) fn written(&self) -> &[u8]
-        ensures { result.now ≡ self.now.told.written }
+        ensures { result.now ≡ written_to self.now.told }
     {
-        &self.written
+        self.writes.bytes()
     }
 }

@@ -4,7 +4,8 @@ ghost use Rattle.std.specs.Prelude.{None, length, take};
 ghost use Rattle.std.specs.IoError.{error_kind};
 ghost use Rattle.std.specs.Net.Addr.{ipv4_bits, IsIpv4OfBits};
 ghost use Rattle.std.specs.Net.Socket.{v4_ip, v4_port};
-ghost use Rattle.edge_traits.specs.Link.{GaveReceipts, ReceiptCounts, ReceiptFits, TriedSends};
+ghost use Rattle.base_specs.specs.Told.{Grew};
+ghost use Rattle.edge_traits.specs.Link.{Receive, ReceiptCounts, ReceiptFits, Send};
 ghost use Rattle.edge_traits.specs.Sink.{PutCounts};
 
 use edge_traits::{Addr, DATAGRAM_LEN, Datagram, Link, Put, Receipt};
@@ -69,8 +70,8 @@ impl Link for UdpLink {
     ghost faults = { λ l. l.faults };
 
     fn send(&mut self, to: Addr, bytes: &[u8]) -> Put
-        ensures sends { TriedSends None None
-            (record { to = to; bytes = take 256 bytes.now; put = result } ∷ []) }
+        ensures sends { Grew None None
+            (Send (record { to = to; bytes = take 256 bytes.now; put = result }) ∷ []) }
         ensures cause { PutCounts result self.old.faults self.new.faults }
         // Without a socket it fails, and none is bound later.
         ensures closed { self.old.socket ≡ None → result ≡ Put.Failed }
@@ -88,7 +89,7 @@ impl Link for UdpLink {
 
     fn recv(&mut self) -> Receipt
         ensures fits { ReceiptFits result }
-        ensures gives { GaveReceipts None None (result ∷ []) }
+        ensures gives { Grew None None (Receive result ∷ []) }
         ensures cause { ReceiptCounts result self.old.faults self.new.faults }
         // Without a socket it fails, and none is bound later.
         ensures closed { self.old.socket ≡ None → result ≡ Receipt.Failed }

@@ -9,7 +9,7 @@ ghost use Rattle.edge_io.specs.WireScript.{next_answer, opened_of, told_of, with
 ghost use Rattle.edge_io.specs.WireScript.{wire_read, wire_read_answer, wire_write_answer, wire_written};
 ghost use Rattle.edge_traits.specs.Sink.{PutCounts};
 ghost use Rattle.edge_traits.specs.Source.{TakeCounts};
-ghost use Rattle.edge_traits.specs.Wire.{is_session, OpenedCounts, Opens, WireReads, WireWrites};
+ghost use Rattle.edge_traits.specs.Wire.{is_session, written_to, OpenedCounts, Opens, WireReads, WireWrites};
 
 use crate::NoMemory;
 use crate::calls::Calls;
@@ -139,7 +139,7 @@ impl ScriptWire {
     pub fn written(&self, session: usize) -> &[u8]
         requires { session < length (opened_of self.now) }
         ensures { (d : SessionScript)
-            → result.now ≡ (slice_index_or (opened_of self.now) session d).told.written }
+            → result.now ≡ written_to (slice_index_or (opened_of self.now) session d).told }
     {
         match (self.closed.get(session), &self.current) {
             (Some(earlier), _) => earlier.written(),
