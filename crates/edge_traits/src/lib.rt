@@ -7,8 +7,8 @@
 //!
 //! Each trait has a count of the calls that failed (`Wire` has two: one for requests and reads, and one for writes):
 //! a call answers Failed exactly where its count rose, and no count falls. Its other ghost member is what the device
-//! tells of what it gave and took. An object in memory tells it. A real file, socket or clock tells nothing, and the
-//! contracts above speak of it in the same words.
+//! tells of what it gave and took; a link and a clock tell their calls in one list, so that their order is told. An object
+//! in memory tells it. A real file, socket or clock tells nothing, and the contracts above speak of it in the same words.
 //!
 //! It stands on `base_specs` for what an object tells, and on `arrayvec` for the bytes of a datagram. The layer above may
 //! rely on the clauses of the traits alone. The objects in memory and the devices of the machine are those of `edge_io`.
