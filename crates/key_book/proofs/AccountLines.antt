@@ -1,6 +1,5 @@
 -- The parts of an account line.
-use Rattle.std.proofs.Common.{◌≡◌, ◌<◌, ◌+◌, ◌^◌, ℕ, List, [], ◌∷◌, ◌++◌, length, drop, decimal, Option, Some, None, refl, sym, ◌∙◌, ap, arith, subst}
-use Rattle.std.specs.Prelude.{codes}
+use Rattle.std.proofs.Common.{◌≡◌, ℕ, List, ◌∷◌, ◌++◌, Option, Some, None, refl, sym, ◌∙◌, ap}
 use Rattle.std.specs.Prelude.{IfSome}
 use Rattle.hex.proofs.HexLemmas.{decode_of-ok}
 use Rattle.text_grammar.specs.Bytes.{HasNo}

@@ -1,22 +1,20 @@
 -- One answer is true of a text of accounts.
-use Rattle.std.proofs.Common.{◌≡◌, ◌≢◌, ◌<◌, ◌+◌, ◌^◌, ℕ, true, false, List, [], ◌∷◌, ◌++◌, length, drop, decimal, Option, Some, None, Result, Ok, Err, refl, sym, ◌∙◌, ap, arith, subst, ◌⊎◌, inl, inr}
-use Rattle.std.specs.Prelude.{codes}
-use Rattle.std.specs.List.{All, Any}
+use Rattle.std.proofs.Common.{◌≡◌, ◌≢◌, ◌<◌, ◌+◌, ◌^◌, ℕ, List, ◌∷◌, drop, decimal, Option, Some, None, Result, Ok, Err, refl, sym, ◌∙◌, ap, arith, ◌⊎◌, inl, inr}
+use Rattle.std.specs.List.{Any}
 use Rattle.std.proofs.lemmas.Fmt.{decimal_injective}
 use Rattle.hex.proofs.HexLemmas.{decode_of-same}
-use Rattle.text_grammar.specs.Bytes.{HasNo}
-use Rattle.text_grammar.specs.Lines.{Say, IsFirstBad, SpellsNothing, SaysAgain}
+use Rattle.text_grammar.specs.Lines.{SpellsNothing, SaysAgain}
 use Rattle.text_grammar.proofs.Cuts.{one_cut, is_there}
 use Rattle.text_grammar.proofs.Decimals.{no_blank}
 use Rattle.text_grammar.proofs.Keys.{key_no_blank}
 use Rattle.text_grammar.proofs.Forms.{SaysOne, Verdict, good, bad_line, again, Judges, one_verdict}
-use Rattle.text_grammar.proofs.Progress.{HasRead, read_other, read_next, read_bad}
+use Rattle.text_grammar.proofs.Progress.{HasRead, read_other, read_next, read_bad, some_verdict}
 use Rattle.key_book.specs.declared.account.Account.{Account}
 use Rattle.key_book.specs.declared.fault.BookFault.{BookFault}
 use Rattle.key_book.specs.declared.fault.BookFault.TheVariants.{BadLine, TwiceRid, NoMemory}
 use Rattle.key_book.specs.AccountBook.{NoneHas}
 use Rattle.key_book.specs.AccountText.{SpellsKey, SpellsKeys, SpellsAccount, account_text}
-use Rattle.key_book.specs.Parsing.{IsAnswer, SpellsNew, Takes}
+use Rattle.key_book.specs.Parsing.{IsAnswer, Takes}
 use Rattle.key_book.proofs.AccountLines.{keys_at}
 
 -- digits spell one key
@@ -76,6 +74,20 @@ exact_from lines (Err (BadLine n)) (Err (TwiceRid m)) p q some = inl (ap answer_
 exact_from lines (Err (TwiceRid n)) (Ok b) p q some = inl (ap answer_of (one_verdict account_text says_one lines (again n) (good b) p q))
 exact_from lines (Err (TwiceRid n)) (Err (BadLine m)) p q some = inl (ap answer_of (one_verdict account_text says_one lines (again n) (bad_line m) p q))
 exact_from lines (Err (TwiceRid n)) (Err (TwiceRid m)) p q some = inl (ap answer_of (one_verdict account_text says_one lines (again n) (again m) p q))
+
+-- any two answers other than want of memory are one
+pub one_answer : (lines : List (List ℕ)) (answer other : Result (List Account) BookFault) → IsAnswer lines answer → IsAnswer lines other
+    → answer ≢ Err NoMemory → other ≢ Err NoMemory → answer ≡ other
+one_answer lines answer other p q some more = elim (exact_from lines answer other p q more) [ inl same ↦ same | inr none ↦ absurd (some none) ]
+
+-- no lines are without an answer
+pub some_answer : (lines : List (List ℕ)) → ((answer : Result (List Account) BookFault) → IsAnswer lines answer → answer ≡ Err NoMemory) → ⊥
+some_answer lines none = some_verdict account_text lines judged
+  where
+    judged : (v : Verdict Account) → Judges account_text lines v → ⊥
+    judged (good accounts) says = absurd (let no = none (Ok accounts) says in cc)
+    judged (bad_line n) bad = absurd (let no = none (Err (BadLine n)) bad in cc)
+    judged (again n) bad = absurd (let no = none (Err (TwiceRid n)) bad in cc)
 
 -- no account before it has the number of a new one
 none_again : (accounts : List Account) (account : Account) → NoneHas accounts account.rid → Any (λ (a : Account). a.rid ≡ account.rid) accounts → ⊥

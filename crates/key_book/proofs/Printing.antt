@@ -1,12 +1,12 @@
 -- What is printed of accounts says them again.
-use Rattle.std.proofs.Common.{◌≡◌, ◌≢◌, ◌<◌, ◌+◌, ◌^◌, ℕ, true, false, List, [], ◌∷◌, ◌++◌, length, decimal, map, Option, Some, None, refl, sym, ◌∙◌, ap, arith, subst, append_assoc, append-nil}
+use Rattle.std.proofs.Common.{◌≡◌, ◌<◌, ℕ, true, false, List, [], ◌∷◌, ◌++◌, decimal, map, Option, Some, None, refl, ◌∙◌, ap, arith, append_assoc, append-nil}
 use Rattle.std.specs.Prelude.{codes, IfSome, nat_le}
 use Rattle.std.specs.Char.{digit_value}
-use Rattle.std.specs.List.{All, AllZip, AllByRecursion, filter, flat_map}
+use Rattle.std.specs.List.{AllZip, AllByRecursion, filter}
 use Rattle.std.specs.Str.Lines.{lines}
 use Rattle.std.proofs.lemmas.Bool.{leb-true}
 use Rattle.std.proofs.lemmas.List.Elements.{recursion_from_All}
-use Rattle.hex.specs.Hex.{decode_of, encode_lower, is_hex_digit}
+use Rattle.hex.specs.Hex.{encode_lower, is_hex_digit}
 use Rattle.hex.proofs.HexLemmas.{decode_of-encode_lower}
 use Rattle.text_grammar.specs.Bytes.{HasNo}
 use Rattle.text_grammar.specs.Lines.{Say}

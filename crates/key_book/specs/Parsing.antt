@@ -1,5 +1,5 @@
 -- What the reader of a text of accounts answers.
-use Rattle.std.specs.Prelude.{◌≡◌, ◌≢◌, ◌++◌, ◌∷◌, ◌⊎◌, ⊤, ℕ, Bool, true, false, List, [], Result, Ok, Err}
+use Rattle.std.specs.Prelude.{◌≡◌, ◌++◌, ◌∷◌, ◌⊎◌, ⊤, ℕ, true, false, List, [], Result, Ok, Err}
 use Rattle.text_grammar.specs.Lines.{Say, IsFirstBad, SpellsNothing, SaysAgain}
 use Rattle.key_book.specs.declared.account.Account.{Account}
 use Rattle.key_book.specs.declared.fault.BookFault.{BookFault}

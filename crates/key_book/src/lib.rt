@@ -4,9 +4,9 @@
 //! [`Keys`] is whatever accounts are looked up in: its ghost member is the list of them, and `find` answers by
 //! that list alone. [`Book`] is such a list with distinct RIDs, and so is one account by itself.
 //!
-//! A text of accounts says one book, or has one first bad account line, and [`parse_accounts`] answers it;
-//! what [`Book::print`] writes says the same book again. [`read_account`] reads one line for texts that have others
-//! beside. Want of memory is the one answer that comes freely. `{:?}` of an account shows no key.
+//! A text of accounts says one book, or has one first bad account line ([`laws_of_accounts`]), which [`parse_accounts`]
+//! answers; what [`Book::print`] writes says the same book again. [`read_account`] reads one line for texts that have
+//! others beside. Want of memory is the one answer that comes freely. `{:?}` of an account shows no key.
 //!
 //! The crate stands on `text_grammar` (lines, numbers and keys), `hex` and `thiserror`. The layer above may
 //! rely on the clauses of `find`, `parse_accounts` and `print`, and on `key_of`, the key that a RID and the
@@ -19,6 +19,7 @@ mod account;
 mod book;
 mod fault;
 mod keys;
+mod laws;
 mod line;
 mod parse;
 mod print;
@@ -29,5 +30,6 @@ pub use account::Account;
 pub use book::Book;
 pub use fault::{BookFault, NoMemory};
 pub use keys::Keys;
+pub use laws::laws_of_accounts;
 pub use line::{ACCOUNT, read_account};
 pub use parse::parse_accounts;

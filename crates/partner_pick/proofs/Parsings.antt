@@ -4,8 +4,8 @@ use Rattle.text_grammar.specs.Lines.{SpellsNothing, SaysAgain}
 use Rattle.text_grammar.proofs.Cuts.{one_cut}
 use Rattle.text_grammar.proofs.Dotted.{one_socket_address, socket_no_blank}
 use Rattle.text_grammar.proofs.Naming.{name_no_blank}
-use Rattle.text_grammar.proofs.Forms.{SaysOne, Verdict, good, bad_line, again, one_verdict}
-use Rattle.text_grammar.proofs.Progress.{HasRead, read_other, read_next, read_bad}
+use Rattle.text_grammar.proofs.Forms.{SaysOne, Verdict, good, bad_line, again, Judges, one_verdict}
+use Rattle.text_grammar.proofs.Progress.{HasRead, read_other, read_next, read_bad, some_verdict}
 use Rattle.partner_pick.specs.declared.entry.Entry.{Entry}
 use Rattle.partner_pick.specs.declared.fault.DirFault.{DirFault}
 use Rattle.partner_pick.specs.declared.fault.DirFault.TheVariants.{BadLine, TwiceName, NoMemory}
@@ -101,6 +101,15 @@ exact_from lines (Err (TwiceName n)) (Err (TwiceName m)) p q some = inl (ap answ
 pub one_answer : (lines : List (List ℕ)) (answer other : Result (List Entry) DirFault) → IsAnswer lines answer → IsAnswer lines other
     → answer ≢ Err NoMemory → other ≢ Err NoMemory → answer ≡ other
 one_answer lines answer other p q some more = elim (exact_from lines answer other p q more) [ inl same ↦ same | inr none ↦ absurd (some none) ]
+
+-- no lines are without an answer
+pub some_answer : (lines : List (List ℕ)) → ((answer : Result (List Entry) DirFault) → IsAnswer lines answer → answer ≡ Err NoMemory) → ⊥
+some_answer lines none = some_verdict computer_text lines judged
+  where
+    judged : (v : Verdict Entry) → Judges computer_text lines v → ⊥
+    judged (good entries) says = absurd (let no = none (Ok entries) says in cc)
+    judged (bad_line n) bad = absurd (let no = none (Err (BadLine n)) bad in cc)
+    judged (again n) bad = absurd (let no = none (Err (TwiceName n)) bad in cc)
 
 -- a line that is taken is read
 pub read_more : (lines : List (List ℕ)) (n : ℕ) (line : List ℕ) (left : List (List ℕ)) (old new : List Entry) (done : Unit {0})

@@ -7,7 +7,7 @@
 //!
 //! The crate stands on `edge_traits` (addresses), `text_grammar` (lines, names, addresses), `arrayvec` and
 //! `thiserror`. The layer above may rely on [`parse_directory`] giving exactly the entries of a text's computer
-//! lines or its first bad one, of which a text has one at most ([`laws_of_directories`]), on [`rank`] giving the one
+//! lines or its first bad one, of which a text has just one ([`laws_of_directories`]), on [`rank`] giving the one
 //! list that `specs/Ranking.antt` calls ranked, and on [`best`] giving its first element without memory. Want of
 //! memory is the one answer that comes freely. The queries and the score are defined in `specs/Queries.antt`, the
 //! computer line in `specs/ComputerText.antt`, what the reader of a text answers in `specs/Parsing.antt`, and that no

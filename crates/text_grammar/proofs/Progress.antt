@@ -1,10 +1,11 @@
 -- How far the reading of a text has come.
-use Rattle.std.proofs.Common.{◌≡◌, ◌+◌, ℕ, true, false, List, [], ◌∷◌, ◌++◌, length, get_or, refl, sym, ◌∙◌, ap, arith, cond, length-append, append_assoc, append-nil}
+use Rattle.std.proofs.Common.{◌≡◌, ◌+◌, ℕ, Bool, true, false, List, [], ◌∷◌, ◌++◌, length, get_or, refl, sym, ◌∙◌, ap, arith, cond, length-append, append_assoc, append-nil}
 use Rattle.std.specs.List.{AllZip, Any, filter}
 use Rattle.std.proofs.lemmas.List.{get_or_default}
 use Rattle.std.proofs.lemmas.List.Elements.{filter-append}
 use Rattle.std.proofs.lemmas.List.Quantifiers.{all_pairs_push}
-use Rattle.text_grammar.specs.Lines.{TextForm, Say, IsFirstBad}
+use Rattle.text_grammar.specs.Lines.{TextForm, Say, SpellsNothing, SaysAgain, IsFirstBad}
+use Rattle.text_grammar.proofs.Forms.{Verdict, good, bad_line, again, Judges}
 
 -- The first n lines say these values, and these lines are left.
 pub record HasRead {A : Type 0} (form : TextForm A) (lines : List (List ℕ)) (n : ℕ) (values : List A) (left : List (List ℕ)) : Type 0 where
@@ -81,3 +82,24 @@ read_bad form IsBad lines n values line left read bad = record {
 -- at the end
 pub read_all : {A : Type 0} (form : TextForm A) (lines : List (List ℕ)) (n : ℕ) (values : List A) → HasRead form lines n values [] → Say form lines values
 read_all form lines n values read = rw (read.parts ∙ append-nil read.done) read.said
+
+-- beside what was read, the lines that are left have a verdict
+judged_from : {A : Type 0} (form : TextForm A) (lines : List (List ℕ)) (n : ℕ) (values : List A) (left : List (List ℕ))
+    → HasRead form lines n values left → ((v : Verdict A) → Judges form lines v → ⊥) → ⊥
+judged_from form lines n values [] read none = none (good values) (read_all form lines n values read)
+judged_from {A} form lines n values (line ∷ left) read none =
+    by_look (λ more further. judged_from form lines (n + 1) more left further none) (form.is_seen line) refl
+  where
+    by_look : ((more : List A) → HasRead form lines (n + 1) more left → ⊥) → (seen : Bool) → form.is_seen line ≡ seen → ⊥
+    by_look on false other = on values (read_other form lines n values line left read other)
+    by_look on true seen =
+        let twice : (x : A) → form.Spells x line → Any (λ y. form.AreSame y x) values → ⊥ =
+        λ x spelled same. none (again (n + 1))
+        (read_bad form (SaysAgain form) lines n values line left read record { seen = seen; value = x; spelled = spelled; again = same }) in
+        let nothing : (x : A) → form.Spells x line → ⊥ =
+        λ x spelled. on (values ++ x ∷ []) (read_next form lines n values line left x read seen spelled (twice x spelled)) in
+        none (bad_line (n + 1)) (read_bad form (SpellsNothing form) lines n values line left read record { seen = seen; nothing = nothing })
+
+-- no text is without a verdict
+pub some_verdict : {A : Type 0} (form : TextForm A) (lines : List (List ℕ)) → ((v : Verdict A) → Judges form lines v → ⊥) → ⊥
+some_verdict form lines none = judged_from form lines 0 [] lines (read_none form lines) none

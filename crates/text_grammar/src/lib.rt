@@ -13,8 +13,8 @@
 //!
 //! It stands on std and `hex` alone. The layers above read line by line with [`next_line`] and cut lines at
 //! their blanks and colons, which no number, key, name or address has in it. For their proofs, `proofs/Progress.antt`
-//! has the steps of a loop over lines, `proofs/Forms.antt` that one verdict is true of a text, and `Cuts.antt`,
-//! `Decimals.antt`, `Keys.antt`, `Naming.antt` and `Dotted.antt` what stands in a line's parts.
+//! has the steps of a loop over lines and that no text is without a verdict, `proofs/Forms.antt` that one verdict is true
+//! of it, and `Cuts.antt`, `Decimals.antt`, `Keys.antt`, `Naming.antt` and `Dotted.antt` what stands in a line's parts.
 #![tactic(auto)]
 
 mod addresses;

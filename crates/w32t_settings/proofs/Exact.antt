@@ -4,8 +4,9 @@ use Rattle.std.specs.Prelude.{◌==◌, count_by}
 use Rattle.std.proofs.lemmas.List.{length-take-le, take-append-drop, take-append-le}
 use Rattle.std.proofs.lemmas.Bool.{cases_lt}
 use Rattle.std.specs.Str.Lines.{lines}
-use Rattle.text_grammar.specs.Lines.{IsFirstBad, Say}
-use Rattle.text_grammar.proofs.Forms.{IsRefused, nothing_refused, again_refused, first_bad_as, bad_says_nothing, one_first_bad, good, one_verdict}
+use Rattle.text_grammar.specs.Lines.{IsFirstBad, Say, SpellsNothing, SaysAgain}
+use Rattle.text_grammar.proofs.Forms.{IsRefused, Verdict, Judges, nothing_refused, again_refused, first_bad_as, bad_says_nothing, one_first_bad, good, bad_line, again, one_verdict}
+use Rattle.text_grammar.proofs.Progress.{some_verdict}
 use Rattle.w32t_settings.specs.declared.settings.Settings.{Settings}
 use Rattle.w32t_settings.specs.declared.settings.SettingsFault.{SettingsFault}
 use Rattle.w32t_settings.specs.declared.settings.SettingsFault.TheVariants.{BadConfig, NoMemory}
@@ -13,11 +14,12 @@ use Rattle.w32t_settings.specs.SettingText.{Item, settings_text}
 use Rattle.w32t_settings.specs.Answer.{HasBadLine, IsBadLine, IsTooLong, IsAnswer}
 use Rattle.w32t_settings.proofs.Counting.{last_line}
 use Rattle.w32t_settings.proofs.Labels.{says_one}
-use Rattle.w32t_settings.proofs.Whole.{one_settings, whole_or_settings}
+use Rattle.w32t_settings.proofs.Amounts.{all_fit}
+use Rattle.w32t_settings.proofs.Whole.{one_settings, settings_or_whole, whole_or_settings}
 
 bad_refused : (earlier : List Item) (line : List ℕ) → IsBadLine earlier line → IsRefused settings_text earlier line
-bad_refused earlier line (inl nothing) = nothing_refused settings_text earlier line nothing
-bad_refused earlier line (inr again) = again_refused settings_text says_one earlier line again
+bad_refused earlier line (inl bad) = nothing_refused settings_text earlier line bad
+bad_refused earlier line (inr bad) = again_refused settings_text says_one earlier line bad
 
 -- the first bytes of a text that isn't longer are the text
 whole_text : (text : List ℕ) → length text ≤ 16777217 → take 16777217 text ≡ text
@@ -103,3 +105,25 @@ exact_from text (Err (BadConfig n)) (Err (BadConfig m)) p q some = inl (ap (λ (
 pub one_answer : (text : List ℕ) (answer other : Result Settings SettingsFault) → IsAnswer text answer → IsAnswer text other
     → answer ≢ Err NoMemory → other ≢ Err NoMemory → answer ≡ other
 one_answer text answer other p q some more = elim (exact_from text answer other p q more) [ inl same ↦ same | inr none ↦ absurd (some none) ]
+
+-- no text is without an answer
+pub some_answer : (text : List ℕ) → ((answer : Result Settings SettingsFault) → IsAnswer text answer → answer ≡ Err NoMemory) → ⊥
+some_answer text none =
+    elim (cases_lt 16777216 (length text)) [
+      | inl long ↦ no_line _ (inr (inl record { long = long; stands = refl; before = λ m below bad. no_line m (inl bad) }))
+      | inr rest ↦ some_verdict settings_text (lines text) (judged (omega (arith, rest)))
+    ]
+  where
+    no_line : (n : ℕ) → IsAnswer text (Err (BadConfig n)) → ⊥
+    no_line n is = absurd (let no = none (Err (BadConfig n)) is in cc)
+
+    judged : length text ≤ 16777216 → (v : Verdict Item) → Judges settings_text (lines text) v → ⊥
+    judged fits (good items) said =
+        elim (settings_or_whole items (all_fit items _ said.spelled)) [
+          | inl settings ↦ absurd (let no = none (Ok settings.0) record { items = items; good = record { fits = fits; said = said }; are = settings.1 } in cc)
+          | inr whole ↦ no_line _ (inr (inr record { items = items; good = record { fits = fits; said = said }; whole = whole; number = refl }))
+        ]
+    judged fits (bad_line n) bad =
+        no_line n (inl (has_bad_line text n (fits_most text fits) (first_bad_as settings_text (SpellsNothing settings_text) IsBadLine (lines text) n (λ earlier line is. inl is) bad)))
+    judged fits (again n) bad =
+        no_line n (inl (has_bad_line text n (fits_most text fits) (first_bad_as settings_text (SaysAgain settings_text) IsBadLine (lines text) n (λ earlier line is. inr is) bad)))

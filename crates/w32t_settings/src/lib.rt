@@ -8,7 +8,7 @@
 //!
 //! It stands on `text_grammar` (lines), `key_book` and `partner_pick` (their lines), `ms_auth` (the kind of messages),
 //! `phase_rule` (limits) and `thiserror`. The layer above may rely on `answer` and `exact` of [`read_settings`], on the
-//! invariants of [`Settings`], and on [`laws_of_settings`]: a text has one answer at most. The definitions: the forms of
+//! invariants of [`Settings`], and on [`laws_of_settings`]: a text has just one answer. The definitions: the forms of
 //! a line in `specs/SettingText.antt`, what the lines set and the defaults in `specs/Values.antt`, and the least bad
 //! line in `specs/Answer.antt`. `specs/Progress.antt` belongs to the private part.
 #![tactic(auto)]

@@ -1,6 +1,5 @@
-use Rattle.std.proofs.Common.{◌≡◌, ◌<◌, ◌^◌, ◌++◌, ◌∷◌, ℕ, List, Option, Some, drop, decimal, refl, sym, ◌∙◌, ap, arith}
+use Rattle.std.proofs.Common.{ℕ, List, drop, decimal, sym, ◌∙◌, ap, arith}
 use Rattle.text_grammar.proofs.Decimals.{no_blank}
-use Rattle.key_book.specs.AccountText.{SpellsAccount, SpellsKeys}
 use Rattle.key_book.proofs.AccountLines.{account_is}
 use Rattle.key_book.proofs.line.read_account.Goals as goal
 

@@ -1,6 +1,4 @@
-use Rattle.std.proofs.Common.{◌≡◌, ℕ, List, Option, Some, None, refl, sym, ◌∙◌, ap, arith}
-use Rattle.key_book.specs.AccountText.{SpellsKey, SpellsKeys}
-use Rattle.key_book.proofs.AccountLines.{AreKeysAt, keys_at}
+use Rattle.key_book.proofs.AccountLines.{keys_at}
 use Rattle.key_book.proofs.line.read_keys.Goals as goal
 
 pub returns-in_err-read_key-in-Some-clause-found : goal.returns-in_err-read_key-in-Some-clause-found

@@ -1,4 +1,4 @@
-use Rattle.std.proofs.Common.{◌≡◌, ◌≢◌, ℕ, List, None, Some, true, false, refl, sym, ◌∙◌, ap}
+use Rattle.std.proofs.Common.{refl, sym, ◌∙◌}
 use Rattle.key_book.proofs.AccountLines.{account_fits}
 use Rattle.key_book.proofs.parse.add_line.Goals as goal
 

@@ -1,9 +1,8 @@
-use Rattle.std.proofs.Common.{◌≡◌, ◌≢◌, ℕ, List, [], Result, Ok, Err, refl, sym, ◌∙◌, ap, arith}
+use Rattle.std.proofs.Common.{◌≡◌, [], Ok, Err, refl, ◌∙◌, ap, arith}
 use Rattle.std.specs.Str.Lines.{lines}
 use Rattle.std.proofs.lemmas.Result.{err_from_is_err_and}
-use Rattle.text_grammar.proofs.Progress.{HasRead, read_all}
+use Rattle.text_grammar.proofs.Progress.{read_all}
 use Rattle.key_book.specs.AccountText.{account_text}
-use Rattle.key_book.specs.Parsing.{IsAnswer, Takes}
 use Rattle.key_book.proofs.Parsings.{exact_from, read_more, bad_answer}
 use Rattle.key_book.proofs.parse.parse_accounts.Goals as goal
 

@@ -1,4 +1,4 @@
-use Rattle.std.proofs.Common.{◌≡◌, true, false, IfOk, Ok, Err, ℕ, List, Result, Vec, Global, refl, sym, ◌∙◌, ap, subst}
+use Rattle.std.proofs.Common.{◌≡◌, IfOk, Ok, Err, ℕ, List, Result, Vec, Global, sym}
 use Rattle.std.specs.Prelude.{MatchResult, is_ok}
 use Rattle.std.specs.Str.Lines.{lines}
 use Rattle.text_grammar.specs.Lines.{Say}

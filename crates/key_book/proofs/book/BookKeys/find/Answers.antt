@@ -1,4 +1,4 @@
-use Rattle.std.proofs.Common.{◌≡◌, ℕ, List, Option, sym, ◌∙◌, ap, subst, ◌↔◌, IfSome, IsNone}
+use Rattle.std.proofs.Common.{◌≡◌, List, Option, sym, ◌∙◌, ap, subst, ◌↔◌, IfSome, IsNone}
 use Rattle.std.specs.Prelude.{Contains}
 use Rattle.key_book.specs.declared.account.Account.{Account}
 use Rattle.key_book.specs.AccountBook.{account_of, NoneHas}
