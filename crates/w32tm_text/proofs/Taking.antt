@@ -10,7 +10,7 @@ use Rattle.text_grammar.specs.Address.{SpellsPort}
 use Rattle.w32tm_text.specs.declared.options.Given.{Given}
 use Rattle.w32tm_text.specs.declared.options.Given.TheVariants as given
 use Rattle.w32tm_text.specs.declared.options.OptionName.{OptionName}
-use Rattle.w32tm_text.specs.declared.options.OptionName.TheVariants.{Config, Keeper, Capture, Port}
+use Rattle.w32tm_text.specs.declared.options.OptionName.TheVariants.{Config, Keeper, Capture, Port, Clock}
 use Rattle.w32tm_text.specs.declared.options.Rule.TheVariants.{Refused}
 use Rattle.w32tm_text.specs.declared.words.Action.{Action}
 use Rattle.w32tm_text.specs.declared.words.Command.{Command}
@@ -30,6 +30,9 @@ one_name Config Capture x y same =
 one_name Config Port x y same =
     let differ : 99 ≡ 112 = ap (λ (l : List ℕ). get_or l 1 0) same in
     absurd (omega (arith, differ))
+one_name Config Clock x y same =
+    let differ : 111 ≡ 108 = ap (λ (l : List ℕ). get_or l 2 0) same in
+    absurd (omega (arith, differ))
 one_name Keeper Config x y same =
     let differ : 107 ≡ 99 = ap (λ (l : List ℕ). get_or l 1 0) same in
     absurd (omega (arith, differ))
@@ -39,6 +42,9 @@ one_name Keeper Capture x y same =
     absurd (omega (arith, differ))
 one_name Keeper Port x y same =
     let differ : 107 ≡ 112 = ap (λ (l : List ℕ). get_or l 1 0) same in
+    absurd (omega (arith, differ))
+one_name Keeper Clock x y same =
+    let differ : 107 ≡ 99 = ap (λ (l : List ℕ). get_or l 1 0) same in
     absurd (omega (arith, differ))
 one_name Capture Config x y same =
     let differ : 97 ≡ 111 = ap (λ (l : List ℕ). get_or l 2 0) same in
@@ -50,6 +56,9 @@ one_name Capture Capture x y same = refl
 one_name Capture Port x y same =
     let differ : 99 ≡ 112 = ap (λ (l : List ℕ). get_or l 1 0) same in
     absurd (omega (arith, differ))
+one_name Capture Clock x y same =
+    let differ : 97 ≡ 108 = ap (λ (l : List ℕ). get_or l 2 0) same in
+    absurd (omega (arith, differ))
 one_name Port Config x y same =
     let differ : 112 ≡ 99 = ap (λ (l : List ℕ). get_or l 1 0) same in
     absurd (omega (arith, differ))
@@ -60,6 +69,22 @@ one_name Port Capture x y same =
     let differ : 112 ≡ 99 = ap (λ (l : List ℕ). get_or l 1 0) same in
     absurd (omega (arith, differ))
 one_name Port Port x y same = refl
+one_name Port Clock x y same =
+    let differ : 112 ≡ 99 = ap (λ (l : List ℕ). get_or l 1 0) same in
+    absurd (omega (arith, differ))
+one_name Clock Config x y same =
+    let differ : 108 ≡ 111 = ap (λ (l : List ℕ). get_or l 2 0) same in
+    absurd (omega (arith, differ))
+one_name Clock Keeper x y same =
+    let differ : 99 ≡ 107 = ap (λ (l : List ℕ). get_or l 1 0) same in
+    absurd (omega (arith, differ))
+one_name Clock Capture x y same =
+    let differ : 108 ≡ 97 = ap (λ (l : List ℕ). get_or l 2 0) same in
+    absurd (omega (arith, differ))
+one_name Clock Port x y same =
+    let differ : 99 ≡ 112 = ap (λ (l : List ℕ). get_or l 1 0) same in
+    absurd (omega (arith, differ))
+one_name Clock Clock x y same = refl
 
 -- a word gives one option
 same_name : (words : List (List ℕ)) (place : ℕ) (a b : OptionName) (x y : List ℕ) → GivesAt a words place x → GivesAt b words place y → a ≡ b
@@ -98,15 +123,17 @@ pub record TookBelow (words : List (List ℕ)) (n : ℕ) (c : Command) : Type 0 
   pub keeper : Holds Keeper IsPath words n c.keeper
   pub capture : Holds Capture IsPath words n c.capture
   pub port : Holds Port IsPort words n c.port
+  pub clock : Holds Clock IsPath words n c.clock
   pub all : (place : ℕ) → 1 ≤ place → place < n → GivesOneOf c.action words place
 
 -- no word behind the first was read
-pub took_nothing : (words : List (List ℕ)) (c : Command) → c.config ≡ None → c.keeper ≡ None → c.capture ≡ None → c.port ≡ None → TookBelow words 1 c
-took_nothing words c config keeper capture port = record {
+pub took_nothing : (words : List (List ℕ)) (c : Command) → c.config ≡ None → c.keeper ≡ None → c.capture ≡ None → c.port ≡ None → c.clock ≡ None → TookBelow words 1 c
+took_nothing words c config keeper capture port clock = record {
   config = subst (Holds Config IsPath words 1) (sym config) (none Config);
   keeper = subst (Holds Keeper IsPath words 1) (sym keeper) (none Keeper);
   capture = subst (Holds Capture IsPath words 1) (sym capture) (none Capture);
   port = subst (Holds Port IsPort words 1) (sym port) (none Port);
+  clock = subst (Holds Clock IsPath words 1) (sym clock) (none Clock);
   all = λ place behind below. absurd (omega arith);
 }
   where
@@ -163,6 +190,7 @@ took_with words n given.Config text c has first here value took = record {
   keeper = holds_on Keeper Config IsPath words n c.keeper text (λ same. cc) here took.keeper;
   capture = holds_on Capture Config IsPath words n c.capture text (λ same. cc) here took.capture;
   port = holds_on Port Config IsPort words n c.port text (λ same. cc) here took.port;
+  clock = holds_on Clock Config IsPath words n c.clock text (λ same. cc) here took.clock;
   all = all_more words n c took.all record { name = Config; text = text; has = has; gives = here };
 }
 took_with words n given.Keeper text c has first here value took = record {
@@ -170,6 +198,7 @@ took_with words n given.Keeper text c has first here value took = record {
   keeper = holds_now Keeper IsPath words n c.keeper n text first here (refl, value) took.keeper;
   capture = holds_on Capture Keeper IsPath words n c.capture text (λ same. cc) here took.capture;
   port = holds_on Port Keeper IsPort words n c.port text (λ same. cc) here took.port;
+  clock = holds_on Clock Keeper IsPath words n c.clock text (λ same. cc) here took.clock;
   all = all_more words n c took.all record { name = Keeper; text = text; has = has; gives = here };
 }
 took_with words n given.Capture text c has first here value took = record {
@@ -177,6 +206,7 @@ took_with words n given.Capture text c has first here value took = record {
   keeper = holds_on Keeper Capture IsPath words n c.keeper text (λ same. cc) here took.keeper;
   capture = holds_now Capture IsPath words n c.capture n text first here (refl, value) took.capture;
   port = holds_on Port Capture IsPort words n c.port text (λ same. cc) here took.port;
+  clock = holds_on Clock Capture IsPath words n c.clock text (λ same. cc) here took.clock;
   all = all_more words n c took.all record { name = Capture; text = text; has = has; gives = here };
 }
 took_with words n (given.Port port) text c has first here value took = record {
@@ -184,7 +214,16 @@ took_with words n (given.Port port) text c has first here value took = record {
   keeper = holds_on Keeper Port IsPath words n c.keeper text (λ same. cc) here took.keeper;
   capture = holds_on Capture Port IsPath words n c.capture text (λ same. cc) here took.capture;
   port = holds_now Port IsPort words n c.port port text first here value took.port;
+  clock = holds_on Clock Port IsPath words n c.clock text (λ same. cc) here took.clock;
   all = all_more words n c took.all record { name = Port; text = text; has = has; gives = here };
+}
+took_with words n given.Clock text c has first here value took = record {
+  config = holds_on Config Clock IsPath words n c.config text (λ same. cc) here took.config;
+  keeper = holds_on Keeper Clock IsPath words n c.keeper text (λ same. cc) here took.keeper;
+  capture = holds_on Capture Clock IsPath words n c.capture text (λ same. cc) here took.capture;
+  port = holds_on Port Clock IsPort words n c.port text (λ same. cc) here took.port;
+  clock = holds_now Clock IsPath words n c.clock n text first here (refl, value) took.clock;
+  all = all_more words n c took.all record { name = Clock; text = text; has = has; gives = here };
 }
 
 same_action : (n : ℕ) (option : Given) (c : Command) → (with_given n option c).action ≡ c.action
@@ -192,6 +231,7 @@ same_action n given.Config c = refl
 same_action n given.Keeper c = refl
 same_action n given.Capture c = refl
 same_action n (given.Port port) c = refl
+same_action n given.Clock c = refl
 
 -- the command stays the same
 pub keeps_action : (n : ℕ) (word : List ℕ) (old new : Command) → TakesGiven n word old new → new.action ≡ old.action
@@ -232,6 +272,7 @@ took_below words n c Config there took = given_below Config IsPath words n c.con
 took_below words n c Keeper there took = given_below Keeper IsPath words n c.keeper there took.keeper
 took_below words n c Capture there took = given_below Capture IsPath words n c.capture there took.capture
 took_below words n c Port there took = given_below Port IsPort words n c.port there took.port
+took_below words n c Clock there took = given_below Clock IsPath words n c.clock there took.clock
 
 -- where all words were read and the required ones are there, they are spelled
 pub all_taken : (words : List (List ℕ)) (n : ℕ) (c : Command) → length words ≤ n → HasRequired c → TookBelow words n c → SpellOptions c words
@@ -240,6 +281,7 @@ all_taken words n c all complete took = record {
   keeper = whole_place Keeper words n c.keeper all took.keeper;
   capture = whole_place Capture words n c.capture all took.capture;
   port = whole_port words n c.port all took.port;
+  clock = whole_place Clock words n c.clock all took.clock;
   all = λ place behind below. took.all place behind (omega arith);
   required = λ name must missing. let (place, text, _, gives) = took_below words n c name (complete name must) took in missing place text gives;
 }
@@ -259,6 +301,7 @@ is_complete words n c d all took same spelled name must = there name (spelled.re
     there Keeper some = held Keeper IsPath words n c.keeper all some took.keeper
     there Capture some = held Capture IsPath words n c.capture all some took.capture
     there Port some = held Port IsPort words n c.port all some took.port
+    there Clock some = held Clock IsPath words n c.clock all some took.clock
 
 -- one place is spelled
 one_place : (name : OptionName) (words : List (List ℕ)) (a b : Option ℕ) → SpellsPlace name words a → SpellsPlace name words b → a ≡ b
@@ -277,20 +320,22 @@ one_port words (Some a) (Some b) (p, x, first, one) (q, y, second, other) =
     let same : x ≡ y = same_text words q Port x y (subst (λ (k : ℕ). GivesAt Port words k x) at one.gives) other.gives in
     ap Some (decimal_injective a b (omega (arith, first.fits)) (omega (arith, second.fits)) (sym first.written ∙ same ∙ second.written))
 
-same_parts : (a b : Action) (c d k l e f g h : Option ℕ) → a ≡ b → c ≡ d → k ≡ l → e ≡ f → g ≡ h
-    → ◌≡◌ {A = Command} (record { action = a; config = c; keeper = k; capture = e; port = g }) (record { action = b; config = d; keeper = l; capture = f; port = h })
-same_parts a b c d k l e f g h action config keeper capture port = cc
+same_parts : (a b : Action) (c d k l e f g h s t : Option ℕ) → a ≡ b → c ≡ d → k ≡ l → e ≡ f → g ≡ h → s ≡ t
+    → ◌≡◌ {A = Command} (record { action = a; config = c; keeper = k; capture = e; port = g; clock = s })
+    (record { action = b; config = d; keeper = l; capture = f; port = h; clock = t })
+same_parts a b c d k l e f g h s t action config keeper capture port clock = cc
 
-command_is : (c d : Command) → c.action ≡ d.action → c.config ≡ d.config → c.keeper ≡ d.keeper → c.capture ≡ d.capture → c.port ≡ d.port → c ≡ d
-command_is c d action config keeper capture port =
-    same_parts c.action d.action c.config d.config c.keeper d.keeper c.capture d.capture c.port d.port action config keeper capture port
+command_is : (c d : Command) → c.action ≡ d.action → c.config ≡ d.config → c.keeper ≡ d.keeper → c.capture ≡ d.capture → c.port ≡ d.port
+    → c.clock ≡ d.clock → c ≡ d
+command_is c d action config keeper capture port clock =
+    same_parts c.action d.action c.config d.config c.keeper d.keeper c.capture d.capture c.port d.port c.clock d.clock action config keeper capture port clock
 
 -- one command is spelled
 pub one_command : (words : List (List ℕ)) (c d : Command) → c.action ≡ d.action → SpellOptions c words → SpellOptions d words → c ≡ d
 one_command words c d same first second =
     command_is c d same (one_place Config words c.config d.config first.config second.config)
     (one_place Keeper words c.keeper d.keeper first.keeper second.keeper) (one_place Capture words c.capture d.capture first.capture second.capture)
-    (one_port words c.port d.port first.port second.port)
+    (one_port words c.port d.port first.port second.port) (one_place Clock words c.clock d.clock first.clock second.clock)
 
 -- what stands behind the name of the only word of an option is its value
 only_text : (name : OptionName) (words : List (List ℕ)) (p place : ℕ) (path text : List ℕ) → IsOnlyAt name words p path → GivesAt name words place text → path ≡ text
@@ -315,6 +360,7 @@ value_of words d name place text spelled gives = by_name name gives
     by_name Keeper gives = (given.Keeper, refl, path_of Keeper d.keeper spelled.keeper gives)
     by_name Capture gives = (given.Capture, refl, path_of Capture d.capture spelled.capture gives)
     by_name Port gives = let (port, spells) = port_of d.port spelled.port gives in (given.Port port, refl, spells)
+    by_name Clock gives = (given.Clock, refl, path_of Clock d.clock spelled.clock gives)
 
 -- one word gives an option
 pub one_gives : (words : List (List ℕ)) (d : Command) (name : OptionName) (a b : ℕ) (x y : List ℕ) → SpellOptions d words → GivesAt name words a x → GivesAt name words b y → a ≡ b
@@ -333,6 +379,7 @@ one_gives words d name a b x y spelled first second = by_name name first second
     by_name Keeper first second = by_place Keeper d.keeper spelled.keeper first second
     by_name Capture first second = by_place Capture d.capture spelled.capture first second
     by_name Port first second = by_port d.port spelled.port first second
+    by_name Clock first second = by_place Clock d.clock spelled.clock first second
 
 -- where a word gives nothing that can be taken, the words spell no options
 pub takes_none : (words : List (List ℕ)) (n : ℕ) (word : List ℕ) (c d new : Command) → 1 ≤ n → slice_get words n ≡ Some word → TookBelow words n c

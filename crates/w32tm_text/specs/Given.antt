@@ -4,7 +4,7 @@ use Rattle.text_grammar.specs.Address.{SpellsPort}
 use Rattle.w32tm_text.specs.declared.options.Given.{Given}
 use Rattle.w32tm_text.specs.declared.options.Given.TheVariants as given
 use Rattle.w32tm_text.specs.declared.options.OptionName.{OptionName}
-use Rattle.w32tm_text.specs.declared.options.OptionName.TheVariants.{Config, Keeper, Capture, Port}
+use Rattle.w32tm_text.specs.declared.options.OptionName.TheVariants.{Config, Keeper, Capture, Port, Clock}
 use Rattle.w32tm_text.specs.declared.options.Rule.TheVariants.{Required, Refused}
 use Rattle.w32tm_text.specs.declared.words.Command.{Command}
 use Rattle.w32tm_text.specs.Options.{name_text, rule_of}
@@ -15,6 +15,7 @@ name_of given.Config = Config
 name_of given.Keeper = Keeper
 name_of given.Capture = Capture
 name_of (given.Port port) = Port
+name_of given.Clock = Clock
 
 -- what may stand behind the name: a path, which isn't empty, or the digits of a port
 abbrev pub SpellsValue : Given → List ℕ → Type 0
@@ -22,6 +23,7 @@ SpellsValue given.Config text = 0 < length text
 SpellsValue given.Keeper text = 0 < length text
 SpellsValue given.Capture text = 0 < length text
 SpellsValue (given.Port port) text = SpellsPort port text
+SpellsValue given.Clock text = 0 < length text
 
 -- the word is the name of an option and its value
 pub record SpellsGiven (g : Given) (word : List ℕ) : Type 0 where
@@ -40,6 +42,7 @@ is_given Config c = is_there c.config
 is_given Keeper c = is_there c.keeper
 is_given Capture c = is_there c.capture
 is_given Port c = is_there c.port
+is_given Clock c = is_there c.clock
 
 -- the command with an option more, which the word at this place gives
 abbrev pub with_given : ℕ → Given → Command → Command
@@ -47,6 +50,7 @@ with_given place given.Config c = record c { config = Some place }
 with_given place given.Keeper c = record c { keeper = Some place }
 with_given place given.Capture c = record c { capture = Some place }
 with_given place (given.Port port) c = record c { port = Some port }
+with_given place given.Clock c = record c { clock = Some place }
 
 -- the option that the word gives was taken
 pub record TakesGiven (place : ℕ) (word : List ℕ) (old new : Command) : Type 0 where

@@ -4,7 +4,7 @@
 use Rattle.std.specs.Prelude.{◌≡◌, ◌≢◌, ◌<◌, ◌≤◌, ℕ, List, ◌++◌, length, codes, slice_get, Option, Some, None}
 use Rattle.text_grammar.specs.Address.{SpellsPort}
 use Rattle.w32tm_text.specs.declared.options.OptionName.{OptionName}
-use Rattle.w32tm_text.specs.declared.options.OptionName.TheVariants.{Config, Keeper, Capture, Port}
+use Rattle.w32tm_text.specs.declared.options.OptionName.TheVariants.{Config, Keeper, Capture, Port, Clock}
 use Rattle.w32tm_text.specs.declared.options.Rule.{Rule}
 use Rattle.w32tm_text.specs.declared.options.Rule.TheVariants.{Required, Allowed, Refused}
 use Rattle.w32tm_text.specs.declared.words.Action.{Action}
@@ -17,6 +17,7 @@ name_text Config = codes "/config:"
 name_text Keeper = codes "/keeper:"
 name_text Capture = codes "/capture:"
 name_text Port = codes "/port:"
+name_text Clock = codes "/clock:"
 
 -- which options each command requires and which it allows besides; all others are refused
 abbrev pub rule_of : Action → OptionName → Rule
@@ -26,18 +27,22 @@ rule_of (Dc turns) Config = Required
 rule_of (Dc turns) Keeper = Refused
 rule_of (Dc turns) Capture = Refused
 rule_of (Dc turns) Port = Allowed
+rule_of (Dc turns) Clock = Refused
 rule_of (Member turns) Config = Required
 rule_of (Member turns) Keeper = Required
 rule_of (Member turns) Capture = Allowed
 rule_of (Member turns) Port = Allowed
+rule_of (Member turns) Clock = Allowed
 rule_of Monitor Config = Required
 rule_of Monitor Keeper = Refused
 rule_of Monitor Capture = Refused
 rule_of Monitor Port = Allowed
+rule_of Monitor Clock = Refused
 rule_of Replay Config = Required
 rule_of Replay Keeper = Refused
 rule_of Replay Capture = Allowed
 rule_of Replay Port = Refused
+rule_of Replay Clock = Refused
 
 -- the word at this place, behind the first one, gives the option: its name, and then this text
 pub record GivesAt (name : OptionName) (words : List (List ℕ)) (place : ℕ) (text : List ℕ) : Type 0 where
@@ -78,5 +83,6 @@ pub record SpellOptions (c : Command) (words : List (List ℕ)) : Type 0 where
   pub keeper : SpellsPlace Keeper words c.keeper
   pub capture : SpellsPlace Capture words c.capture
   pub port : SpellsPortOption words c.port
+  pub clock : SpellsPlace Clock words c.clock
   pub all : (place : ℕ) → 1 ≤ place → place < length words → GivesOneOf c.action words place
   pub required : (name : OptionName) → rule_of c.action name ≡ Required → ¬ IsMissing name words

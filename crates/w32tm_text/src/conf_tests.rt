@@ -3,6 +3,7 @@ use crate::{ConfFault, conf_of};
 use edge_traits::Addr;
 use key_book::Account;
 use ms_auth::Kind;
+use phase_rule::Limits;
 use std::alloc::Global;
 use std::test::Fail;
 use time_machine::Conf;
@@ -46,44 +47,61 @@ fn read(alloc: Global, text: &str) -> Result<Result<Conf, ConfFault>, Fail> {
     Ok(conf_of(alloc, &settings))
 }
 
-fn at(last: u8, port: u16) -> Addr {
+const fn at(last: u32, port: u16) -> Addr
+    requires { last < 256 }
+{
     Addr {
-        ip: 0x0A00_0000 + u32::from(last),
+        ip: 0x0A00_0000 + last,
         port,
     }
 }
 
+// Texts, and what a member is set to by them: the kind of its messages, the RID of its account, its limits and its
+// partners in their order.
+const MEMBERS: &[(&str, Kind, u32, Limits, &[Addr])] = &[
+    (
+        MEMBER,
+        Kind::Short,
+        1103,
+        Limits {
+            max_pos: 4_294_967_295,
+            max_neg: 4_294_967_295,
+            max_allowed: 300,
+            min_poll: 10,
+            max_poll: 15,
+        },
+        &[at(2, 123), at(1, 123), at(3, 123)],
+    ),
+    (
+        EXTENDED,
+        Kind::Extended,
+        3_000_000_000,
+        Limits {
+            max_pos: 172_800,
+            max_neg: 172_800,
+            max_allowed: 300,
+            min_poll: 6,
+            max_poll: 10,
+        },
+        &[at(3, 123)],
+    ),
+];
+
 #[test]
 fn members_are_set(rt: HostRuntime) -> Result<(), Fail> {
-    let conf = read(rt.alloc(), MEMBER)?.map_err(|_| "no conf")?;
-    assert_eq!(rt; conf.kind, Kind::Short);
-    assert_eq!(rt;
-        conf.account,
-        Account {
-            rid: 1103,
+    for (text, kind, rid, limits, partners) in MEMBERS {
+        let conf = read(rt.alloc(), text)?.map_err(|_| "no conf")?;
+        let account = Account {
+            rid: *rid,
             current: KEY,
-            previous: None
-        }
-    );
-    assert_eq!(rt; conf.limits.max_pos, 4_294_967_295);
-    assert_eq!(rt; conf.limits.max_neg, 4_294_967_295);
-    assert_eq!(rt; conf.limits.max_allowed, 300);
-    assert_eq!(rt; conf.limits.min_poll, 10);
-    assert_eq!(rt; conf.limits.max_poll, 15);
-    let partners = [at(2, 123), at(1, 123), at(3, 123)];
-    assert_eq!(rt; conf.partners.as_slice(), partners.as_slice());
-    let conf = read(rt.alloc(), EXTENDED)?.map_err(|_| "no conf")?;
-    assert_eq!(rt; conf.kind, Kind::Extended);
-    assert_eq!(rt;
-        conf.account,
-        Account {
-            rid: 3_000_000_000,
-            current: KEY,
-            previous: None
-        }
-    );
-    assert_eq!(rt; conf.limits.max_pos, 172_800);
-    assert_eq!(rt; conf.partners.as_slice(), [at(3, 123)].as_slice());
+            previous: None,
+        };
+        assert_eq!(rt;
+            (conf.kind, conf.account, conf.limits, conf.partners.as_slice()),
+            (*kind, account, *limits, *partners),
+            "{rid}"
+        );
+    }
     Ok(())
 }
 

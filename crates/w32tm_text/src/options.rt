@@ -21,14 +21,17 @@ pub(crate) enum OptionName {
     Capture,
     /// `/port:`
     Port,
+    /// `/clock:`
+    Clock,
 }
 
 /// All options.
-const OPTION_NAMES: [OptionName; 4] = [
+const OPTION_NAMES: [OptionName; 5] = [
     OptionName::Config,
     OptionName::Keeper,
     OptionName::Capture,
     OptionName::Port,
+    OptionName::Clock,
 ];
 
 /// Whether words with a command have an option.
@@ -53,6 +56,8 @@ pub(crate) enum Given {
     Capture,
     /// `/port:N`
     Port(u16),
+    /// `/clock:PATH`
+    Clock,
 }
 
 /// The command with this action and with the options that the words behind the first give. None where one of them gives
@@ -69,6 +74,7 @@ pub(crate) fn read_options(action: Action, words: &Vec<String>) -> Option<Comman
         keeper: None,
         capture: None,
         port: None,
+        clock: None,
     };
     for place in 1..words.len() {
         command.take(place, words[place].as_bytes())?;
@@ -98,6 +104,7 @@ impl Command {
             Given::Keeper => self.keeper = Some(place),
             Given::Capture => self.capture = Some(place),
             Given::Port(port) => self.port = Some(port),
+            Given::Clock => self.clock = Some(place),
         }
         Some(())
     }
@@ -118,6 +125,7 @@ impl Command {
             OptionName::Keeper => self.keeper.is_some(),
             OptionName::Capture => self.capture.is_some(),
             OptionName::Port => self.port.is_some(),
+            OptionName::Clock => self.clock.is_some(),
         }
     }
 }
@@ -134,17 +142,17 @@ impl Action {
             Action::Sign(_) | Action::Show(_) => Rule::Refused,
             Action::Dc(_) | Action::Monitor => match name {
                 OptionName::Config => Rule::Required,
-                OptionName::Keeper | OptionName::Capture => Rule::Refused,
+                OptionName::Keeper | OptionName::Capture | OptionName::Clock => Rule::Refused,
                 OptionName::Port => Rule::Allowed,
             },
             Action::Member(_) => match name {
                 OptionName::Config | OptionName::Keeper => Rule::Required,
-                OptionName::Capture | OptionName::Port => Rule::Allowed,
+                OptionName::Capture | OptionName::Port | OptionName::Clock => Rule::Allowed,
             },
             Action::Replay => match name {
                 OptionName::Config => Rule::Required,
                 OptionName::Capture => Rule::Allowed,
-                OptionName::Keeper | OptionName::Port => Rule::Refused,
+                OptionName::Keeper | OptionName::Port | OptionName::Clock => Rule::Refused,
             },
         }
     }
@@ -160,6 +168,7 @@ impl Given {
             Given::Keeper => OptionName::Keeper,
             Given::Capture => OptionName::Capture,
             Given::Port(_) => OptionName::Port,
+            Given::Clock => OptionName::Clock,
         }
     }
 }
@@ -177,6 +186,9 @@ fn read_option(word: &[u8]) -> Option<Given>
     }
     if let Some(path) = behind(word, b"/capture:") {
         return (!path.is_empty()).then_some(Given::Capture);
+    }
+    if let Some(path) = behind(word, b"/clock:") {
+        return (!path.is_empty()).then_some(Given::Clock);
     }
     let port = behind(word, b"/port:")?;
     Some(Given::Port(read_port(port)?))

@@ -1,9 +1,11 @@
 //! Words good and bad, the lines of messages and of `/dc`, and the codes and lines of statuses.
 mod options;
 
-use crate::{Action, BadWords, Command, Status, dc_lines, read_words, show_lines, status_line};
+use crate::{Action, Status, dc_lines, read_words, show_lines, status_line};
 use dc_sign::{Refusal, ServeEnd, ServeWhy};
+use edge_traits::Datagram;
 use key_book::Account;
+use line_text::LongLine;
 use ms_auth::read_packet;
 use std::alloc::{AllocError, Global};
 use std::test::Fail;
@@ -16,8 +18,32 @@ fn words_of(alloc: Global, texts: &[&str]) -> Result<Vec<String>, AllocError> {
     Ok(words)
 }
 
+fn joined(alloc: Global, lines: &[LongLine]) -> Result<Vec<u8>, AllocError> {
+    let mut text = Vec::new(alloc);
+    for line in lines {
+        text.extend_from_slice(line.as_slice())?;
+    }
+    Ok(text)
+}
+
+/// The bytes of `/show`.
+fn shown_by(words: &Vec<String>) -> Option<Datagram> {
+    match read_words(words).ok()?.action {
+        Action::Show(bytes) => Some(bytes),
+        _ => None,
+    }
+}
+
+/// The account of `/sign`.
+fn account_by(words: &Vec<String>) -> Option<Account> {
+    match read_words(words).ok()?.action {
+        Action::Sign(account) => Some(account),
+        _ => None,
+    }
+}
+
 // Words, and the lines of the message. The lines are those that `examples/peers/show.py HEX` prints.
-const SHOWN: [(&str, &str); 5] = [
+const SHOWN: &[(&str, &str)] = &[
     (
         "/show:000000000000000000000000000000000000000000000000000000000000000000000000000000000000\
          000000000000",
@@ -74,21 +100,8 @@ const SHOWN: [(&str, &str); 5] = [
 #[test]
 fn shows_each_kind_at_its_ends(rt: HostRuntime) -> Result<(), Fail> {
     for (word, lines) in SHOWN {
-        let words = words_of(rt.alloc(), &[word])?;
-        let Ok(
-            Command {
-                action: Action::Show(bytes),
-                ..
-            },
-        ) = read_words(&words)
-        else {
-            return Err("words")?;
-        };
-        let packet = read_packet(bytes.as_slice())?;
-        let mut text = Vec::new(rt.alloc());
-        for line in &show_lines(&packet) {
-            text.extend_from_slice(line.as_slice())?;
-        }
+        let bytes = shown_by(&words_of(rt.alloc(), &[*word])?).ok_or("words")?;
+        let text = joined(rt.alloc(), &show_lines(&read_packet(bytes.as_slice())?))?;
         assert_eq!(rt; text.as_slice(), lines.as_bytes(), "{word}");
     }
     Ok(())
@@ -101,7 +114,7 @@ const PREVIOUS: [u8; 16] = [
 ];
 
 // Words, and the account that they name.
-const SIGNING: [(&str, Account); 3] = [
+const SIGNING: &[(&str, Account)] = &[
     (
         "/sign:0:a5a5a5a5a5a5a5a5A5A5A5A5A5A5A5A5",
         Account {
@@ -129,166 +142,108 @@ const SIGNING: [(&str, Account); 3] = [
 ];
 
 #[test]
-fn accounts_of_words(rt: HostRuntime) -> Result<(), Fail> {
+fn accounts_of_words(rt: HostRuntime) -> Result<(), AllocError> {
     for (word, account) in SIGNING {
-        let words = words_of(rt.alloc(), &[word])?;
-        match read_words(&words) {
-            Ok(
-                Command {
-                    action: Action::Sign(read),
-                    ..
-                },
-            ) => assert_eq!(rt; read, account, "{word}"),
-            _ => return Err("words")?,
-        }
+        let read = account_by(&words_of(rt.alloc(), &[*word])?);
+        assert_eq!(rt; read, Some(*account), "{word}");
     }
     Ok(())
+}
+
+/// How many bytes so many digits spell in `/show:`. All of them are `f`.
+fn spelled_by(alloc: Global, digits: usize) -> Result<Option<usize>, AllocError> {
+    let mut word = String::from_str(alloc, "/show:")?;
+    for _ in 0..digits {
+        word.push('f')?;
+    }
+    let Some(bytes) = shown_by(&words_of(alloc, &[word.as_str()])?) else {
+        return Ok(None);
+    };
+    Ok(bytes.as_slice().iter().all(|byte| *byte == 0xFF).then_some(bytes.as_slice().len()))
 }
 
 #[test]
-fn datagrams_of_words(rt: HostRuntime) -> Result<(), Fail> {
-    for (digits, count) in [(0, 0), (2, 1), (510, 255), (512, 256)] {
-        let mut word = String::from_str(rt.alloc(), "/show:")?;
-        for _ in 0..digits {
-            word.push('f')?;
-        }
-        let mut words = Vec::new(rt.alloc());
-        words.push(word)?;
-        match read_words(&words) {
-            Ok(
-                Command {
-                    action: Action::Show(bytes),
-                    ..
-                },
-            ) => {
-                assert_eq!(rt; bytes.as_slice().len(), count);
-                assert!(rt; bytes.as_slice().iter().all(|byte| *byte == 0xFF));
-            }
-            _ => return Err("words")?,
-        }
-    }
-    for digits in [1, 511, 513, 514] {
-        let mut word = String::from_str(rt.alloc(), "/show:")?;
-        for _ in 0..digits {
-            word.push('f')?;
-        }
-        let mut words = Vec::new(rt.alloc());
-        words.push(word)?;
-        assert!(rt; read_words(&words).is_err(), "{digits} digits");
+fn datagrams_of_words(rt: HostRuntime) -> Result<(), AllocError> {
+    for (digits, count) in [
+        (0, Some(0)),
+        (1, None),
+        (2, Some(1)),
+        (510, Some(255)),
+        (511, None),
+        (512, Some(256)),
+        (513, None),
+        (514, None),
+    ] {
+        assert_eq!(rt; spelled_by(rt.alloc(), digits)?, count, "{digits} digits");
     }
     Ok(())
 }
 
-const BAD_WORDS: [&[&str]; 31] = [
-    &[],
-    &[""],
-    &["sign:1103:00000000000000000000000000000000"],
-    &["/sign"],
-    &["/sign:"],
-    &["/sign:1103"],
-    &["/sign:1103:"],
-    &["/SIGN:1103:00000000000000000000000000000000"],
-    &[" /sign:1103:00000000000000000000000000000000"],
-    &["/sign:1103:00000000000000000000000000000000 "],
-    &["/sign::00000000000000000000000000000000"],
-    &["/sign:01103:00000000000000000000000000000000"],
-    &["/sign:00:00000000000000000000000000000000"],
-    &["/sign:+5:00000000000000000000000000000000"],
-    &["/sign:-0:00000000000000000000000000000000"],
-    &["/sign:4294967296:00000000000000000000000000000000"],
-    &["/sign:1103:0000000000000000000000000000000"],
-    &["/sign:1103:000000000000000000000000000000000"],
-    &["/sign:1103:0000000000000000000000000000000g"],
-    &["/sign:1103:00000000000000000000000000000000:"],
-    &["/sign:1103::00000000000000000000000000000000"],
-    &["/sign:1103:00000000000000000000000000000000:0000000000000000000000000000000"],
-    &["/sign:1103:00000000000000000000000000000000:00000000000000000000000000000000:"],
-    &["/sign:1103:00000000000000000000000000000000", ""],
-    &["/sign:1103:00000000000000000000000000000000", "/port:123"],
-    &["/show"],
-    &["/show:0"],
-    &["/show:0g"],
-    &["/show: 00"],
-    &["/show:00:00"],
-    &["/show:00", "/show:00"],
+// Each status, its code and its line.
+const STATUSES: &[(Status, u8, &str)] = &[
+    (Status::Done, 0, ""),
+    (Status::BadWords, 1, "w32tm: bad words\n"),
+    (
+        Status::BadConfig { line: 1 },
+        2,
+        "w32tm: bad settings at line 1\n",
+    ),
+    (
+        Status::BadConfig { line: u32::MAX },
+        2,
+        "w32tm: bad settings at line 4294967295\n",
+    ),
+    (
+        Status::BadCapture { at: 0 },
+        3,
+        "w32tm: bad capture at byte 0\n",
+    ),
+    (
+        Status::BadCapture { at: u64::MAX },
+        3,
+        "w32tm: bad capture at byte 18446744073709551615\n",
+    ),
+    (Status::ReadFault, 4, "w32tm: read fault\n"),
+    (Status::WriteFault, 5, "w32tm: write fault\n"),
+    (Status::DiskFault, 6, "w32tm: disk fault\n"),
+    (Status::BadKeeper, 7, "w32tm: bad keeper\n"),
+    (Status::StampsSpent, 8, "w32tm: stamps spent\n"),
+    (Status::ClockFault, 9, "w32tm: clock fault\n"),
+    (Status::EntropyFault, 10, "w32tm: entropy fault\n"),
+    (Status::NoPartner, 11, "w32tm: no partner\n"),
+    (
+        Status::BadRequest { reason: Refusal::BadLength },
+        14,
+        "w32tm: bad request, BadLength\n",
+    ),
+    (
+        Status::BadRequest { reason: Refusal::BadVersion },
+        14,
+        "w32tm: bad request, BadVersion\n",
+    ),
+    (
+        Status::BadRequest { reason: Refusal::BadMode },
+        14,
+        "w32tm: bad request, BadMode\n",
+    ),
+    (
+        Status::BadRequest { reason: Refusal::UnknownAccount },
+        14,
+        "w32tm: bad request, UnknownAccount\n",
+    ),
+    (
+        Status::BadRequest { reason: Refusal::NoOldKey },
+        14,
+        "w32tm: bad request, NoOldKey\n",
+    ),
+    (Status::NoMemory, 15, "w32tm: no memory\n"),
 ];
 
 #[test]
-fn bad_words(rt: HostRuntime) -> Result<(), Fail> {
-    for texts in BAD_WORDS {
-        let words = words_of(rt.alloc(), texts)?;
-        assert!(rt; matches!(read_words(&words), Err(BadWords)), "{texts:?}");
-    }
-    Ok(())
-}
-
-#[test]
 fn codes_and_lines(rt: HostRuntime) {
-    let refused = |reason| Status::BadRequest { reason };
-    for (status, code, line) in [
-        (Status::Done, 0, ""),
-        (Status::BadWords, 1, "w32tm: bad words\n"),
-        (
-            Status::BadConfig { line: 1 },
-            2,
-            "w32tm: bad settings at line 1\n",
-        ),
-        (
-            Status::BadConfig { line: u32::MAX },
-            2,
-            "w32tm: bad settings at line 4294967295\n",
-        ),
-        (
-            Status::BadCapture { at: 0 },
-            3,
-            "w32tm: bad capture at byte 0\n",
-        ),
-        (
-            Status::BadCapture { at: u64::MAX },
-            3,
-            "w32tm: bad capture at byte 18446744073709551615\n",
-        ),
-        (Status::ReadFault, 4, "w32tm: read fault\n"),
-        (Status::WriteFault, 5, "w32tm: write fault\n"),
-        (Status::DiskFault, 6, "w32tm: disk fault\n"),
-        (Status::BadKeeper, 7, "w32tm: bad keeper\n"),
-        (Status::StampsSpent, 8, "w32tm: stamps spent\n"),
-        (Status::ClockFault, 9, "w32tm: clock fault\n"),
-        (Status::EntropyFault, 10, "w32tm: entropy fault\n"),
-        (Status::NoPartner, 11, "w32tm: no partner\n"),
-        (
-            refused(Refusal::BadLength),
-            14,
-            "w32tm: bad request, BadLength\n",
-        ),
-        (
-            refused(Refusal::BadVersion),
-            14,
-            "w32tm: bad request, BadVersion\n",
-        ),
-        (
-            refused(Refusal::BadMode),
-            14,
-            "w32tm: bad request, BadMode\n",
-        ),
-        (
-            refused(Refusal::UnknownAccount),
-            14,
-            "w32tm: bad request, UnknownAccount\n",
-        ),
-        (
-            refused(Refusal::NoOldKey),
-            14,
-            "w32tm: bad request, NoOldKey\n",
-        ),
-        (Status::NoMemory, 15, "w32tm: no memory\n"),
-    ] {
-        assert_eq!(rt; status.code(), code, "{status:?}");
-        assert_eq!(rt;
-            status_line(&status).as_slice(),
-            line.as_bytes(),
-            "{status:?}"
-        );
+    for (status, code, line) in STATUSES {
+        let told = status_line(status);
+        assert_eq!(rt; (status.code(), told.as_slice()), (*code, line.as_bytes()), "{status:?}");
     }
 }
 
@@ -312,46 +267,46 @@ const GREATEST: ServeEnd = ServeEnd {
     why: ServeWhy::ClockFault,
 };
 
+// What `/dc` did, and its lines.
+const ENDS: &[(ServeEnd, &str)] = &[
+    (
+        ServeEnd {
+            signed: 1,
+            refused: [0, 0, 0, 1, 0],
+            quiet: 1,
+            ..NOTHING
+        },
+        "signed=1 plain=0\n\
+         refused BadLength=0 BadVersion=0 BadMode=0 UnknownAccount=1 NoOldKey=0\n\
+         link quiet=1 lost=0 unsent=0\n",
+    ),
+    (
+        ServeEnd {
+            signed: 10,
+            plain: 2,
+            refused: [3, 4, 5, 6, 7],
+            quiet: 8,
+            lost: 9,
+            unsent: 11,
+            why: ServeWhy::Done,
+        },
+        "signed=10 plain=2\n\
+         refused BadLength=3 BadVersion=4 BadMode=5 UnknownAccount=6 NoOldKey=7\n\
+         link quiet=8 lost=9 unsent=11\n",
+    ),
+    (
+        GREATEST,
+        "signed=4294967295 plain=4294967295\n\
+         refused BadLength=4294967295 BadVersion=4294967295 BadMode=4294967295 \
+         UnknownAccount=4294967295 NoOldKey=4294967295\n\
+         link quiet=4294967295 lost=4294967295 unsent=4294967295\n",
+    ),
+];
+
 #[test]
-fn closing_lines_of_dc(rt: HostRuntime) -> Result<(), Fail> {
-    for (end, lines) in [
-        (
-            ServeEnd {
-                signed: 1,
-                refused: [0, 0, 0, 1, 0],
-                quiet: 1,
-                ..NOTHING
-            },
-            "signed=1 plain=0\n\
-             refused BadLength=0 BadVersion=0 BadMode=0 UnknownAccount=1 NoOldKey=0\n\
-             link quiet=1 lost=0 unsent=0\n",
-        ),
-        (
-            ServeEnd {
-                signed: 10,
-                plain: 2,
-                refused: [3, 4, 5, 6, 7],
-                quiet: 8,
-                lost: 9,
-                unsent: 11,
-                why: ServeWhy::Done,
-            },
-            "signed=10 plain=2\n\
-             refused BadLength=3 BadVersion=4 BadMode=5 UnknownAccount=6 NoOldKey=7\n\
-             link quiet=8 lost=9 unsent=11\n",
-        ),
-        (
-            GREATEST,
-            "signed=4294967295 plain=4294967295\n\
-             refused BadLength=4294967295 BadVersion=4294967295 BadMode=4294967295 \
-             UnknownAccount=4294967295 NoOldKey=4294967295\n\
-             link quiet=4294967295 lost=4294967295 unsent=4294967295\n",
-        ),
-    ] {
-        let mut text = Vec::new(rt.alloc());
-        for line in &dc_lines(&end) {
-            text.extend_from_slice(line.as_slice())?;
-        }
+fn closing_lines_of_dc(rt: HostRuntime) -> Result<(), AllocError> {
+    for (end, lines) in ENDS {
+        let text = joined(rt.alloc(), &dc_lines(end))?;
         assert_eq!(rt; text.as_slice(), lines.as_bytes());
     }
     Ok(())

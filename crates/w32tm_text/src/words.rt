@@ -51,6 +51,8 @@ pub struct Command {
     pub capture: Option<usize>,
     /// The local port of the link, 1 to 65,535, of `/port:`.
     pub port: Option<u16>,
+    /// The word in which the path of the clock's samples stands, behind `/clock:`.
+    pub clock: Option<usize>,
 }
 
 /// The words spell no command.
@@ -67,7 +69,7 @@ pub struct BadWords;
 /// - `/dc:TURNS`, where TURNS is a decimal of 1 to 1,000,000 without sign or leading zero. It requires `/config:PATH`
 ///   and allows `/port:N`.
 /// - `/member:TURNS`, with TURNS as for `/dc`. It requires `/config:PATH` and `/keeper:PATH`, and allows
-///   `/capture:PATH` and `/port:N`.
+///   `/capture:PATH`, `/port:N` and `/clock:PATH`.
 /// - `/monitor`, which requires `/config:PATH` and allows `/port:N`.
 /// - `/replay`, which requires `/config:PATH` and allows `/capture:PATH`.
 ///

@@ -1,350 +1,99 @@
-//! Words of the commands that have options.
+//! Words: the commands with their options, and what is none.
 use super::words_of;
-use crate::{Action, BadWords, Command, read_words};
-use std::test::Fail;
+use crate::{Action, read_words};
+use std::alloc::AllocError;
 
-/// The commands that have options.
+/// The commands, without what stands in the words of `/sign` and `/show`.
 #[derive(Clone, Copy, Debug, PartialEq, Eq)]
 enum Work {
+    Sign,
+    Show,
     Dc(u32),
     Member(u32),
     Monitor,
     Replay,
 }
 
-fn work_of(command: &Command) -> Option<Work> {
-    match &command.action {
-        Action::Sign(_) | Action::Show(_) => None,
-        Action::Dc(turns) => Some(Work::Dc(*turns)),
-        Action::Member(turns) => Some(Work::Member(*turns)),
-        Action::Monitor => Some(Work::Monitor),
-        Action::Replay => Some(Work::Replay),
+fn work_of(action: &Action) -> Work {
+    match action {
+        Action::Sign(_) => Work::Sign,
+        Action::Show(_) => Work::Show,
+        Action::Dc(turns) => Work::Dc(*turns),
+        Action::Member(turns) => Work::Member(*turns),
+        Action::Monitor => Work::Monitor,
+        Action::Replay => Work::Replay,
     }
 }
 
-// Words, and what they say: the command, the words in which the paths of the settings and of the capture stand, and
-// the port.
-const GOOD: [(&[&str], Work, usize, Option<usize>, Option<u16>); 32] = [
-    (&["/dc:1", "/config:a"], Work::Dc(1), 1, None, None),
-    (
-        &["/dc:9", "/config:/etc/w32tm.conf"],
-        Work::Dc(9),
-        1,
-        None,
-        None,
-    ),
-    (
-        &["/dc:10", "/config:C:\\w32tm.conf"],
-        Work::Dc(10),
-        1,
-        None,
-        None,
-    ),
-    (
-        &["/dc:999999", "/config:a"],
-        Work::Dc(999_999),
-        1,
-        None,
-        None,
-    ),
-    (
-        &["/dc:1000000", "/config:a"],
-        Work::Dc(1_000_000),
-        1,
-        None,
-        None,
-    ),
-    (
-        &["/dc:3", "/config:a", "/port:123"],
-        Work::Dc(3),
-        1,
-        None,
-        Some(123),
-    ),
-    (
-        &["/dc:3", "/port:123", "/config:a"],
-        Work::Dc(3),
-        2,
-        None,
-        Some(123),
-    ),
-    (
-        &["/dc:3", "/port:1", "/config:a"],
-        Work::Dc(3),
-        2,
-        None,
-        Some(1),
-    ),
-    (
-        &["/dc:3", "/config:a", "/port:9"],
-        Work::Dc(3),
-        1,
-        None,
-        Some(9),
-    ),
-    (
-        &["/dc:3", "/config:a", "/port:10"],
-        Work::Dc(3),
-        1,
-        None,
-        Some(10),
-    ),
-    (
-        &["/dc:3", "/config:a", "/port:49152"],
-        Work::Dc(3),
-        1,
-        None,
-        Some(49_152),
-    ),
-    (
-        &["/dc:3", "/config:a", "/port:65534"],
-        Work::Dc(3),
-        1,
-        None,
-        Some(65_534),
-    ),
-    (
-        &["/dc:3", "/config:a", "/port:65535"],
-        Work::Dc(3),
-        1,
-        None,
-        Some(65_535),
-    ),
+/// The command, the words in which the paths of the settings, the keeper's file, the capture and the clock's samples
+/// stand, and the port. What isn't named is 0: that word is the command, and no port.
+type Said = (Work, [usize; 4], u16);
+
+fn said_by(words: &Vec<String>) -> Option<Said> {
+    let command = read_words(words).ok()?;
+    let places = [
+        command.config.unwrap_or(0),
+        command.keeper.unwrap_or(0),
+        command.capture.unwrap_or(0),
+        command.clock.unwrap_or(0),
+    ];
+    Some((work_of(&command.action), places, command.port.unwrap_or(0)))
+}
+
+const GOOD: &[(&[&str], Work, [usize; 4], u16)] = &[
+    (&["/dc:1", "/config:a"], Work::Dc(1), [1, 0, 0, 0], 0),
+    (&["/dc:9", "/config:/etc/w32tm.conf"], Work::Dc(9), [1, 0, 0, 0], 0),
+    (&["/dc:10", "/config:C:\\w32tm.conf"], Work::Dc(10), [1, 0, 0, 0], 0),
+    (&["/dc:999999", "/config:a"], Work::Dc(999_999), [1, 0, 0, 0], 0),
+    (&["/dc:1000000", "/config:a"], Work::Dc(1_000_000), [1, 0, 0, 0], 0),
+    (&["/dc:3", "/config:a", "/port:123"], Work::Dc(3), [1, 0, 0, 0], 123),
+    (&["/dc:3", "/port:123", "/config:a"], Work::Dc(3), [2, 0, 0, 0], 123),
+    (&["/dc:3", "/port:1", "/config:a"], Work::Dc(3), [2, 0, 0, 0], 1),
+    (&["/dc:3", "/config:a", "/port:9"], Work::Dc(3), [1, 0, 0, 0], 9),
+    (&["/dc:3", "/config:a", "/port:10"], Work::Dc(3), [1, 0, 0, 0], 10),
+    (&["/dc:3", "/config:a", "/port:49152"], Work::Dc(3), [1, 0, 0, 0], 49_152),
+    (&["/dc:3", "/config:a", "/port:65534"], Work::Dc(3), [1, 0, 0, 0], 65_534),
+    (&["/dc:3", "/config:a", "/port:65535"], Work::Dc(3), [1, 0, 0, 0], 65_535),
     // A path is any text that isn't empty, whatever it looks like.
-    (&["/dc:3", "/config: "], Work::Dc(3), 1, None, None),
-    (&["/dc:3", "/config::"], Work::Dc(3), 1, None, None),
-    (&["/dc:3", "/config:/port:5"], Work::Dc(3), 1, None, None),
-    (
-        &["/dc:3", "/config:/port:0", "/port:5"],
-        Work::Dc(3),
-        1,
-        None,
-        Some(5),
-    ),
-    (&["/dc:3", "/config:/config:"], Work::Dc(3), 1, None, None),
-    (&["/dc:3", "/config:ü"], Work::Dc(3), 1, None, None),
-    (&["/dc:3", "/config:a b\tc\nd"], Work::Dc(3), 1, None, None),
-    (&["/monitor", "/config:a"], Work::Monitor, 1, None, None),
-    (
-        &["/monitor", "/config:a", "/port:1"],
-        Work::Monitor,
-        1,
-        None,
-        Some(1),
-    ),
-    (
-        &["/monitor", "/port:65535", "/config:a"],
-        Work::Monitor,
-        2,
-        None,
-        Some(65_535),
-    ),
-    (&["/monitor", "/config:0"], Work::Monitor, 1, None, None),
-    (&["/replay", "/config:a"], Work::Replay, 1, None, None),
-    (
-        &["/replay", "/config:a", "/capture:b"],
-        Work::Replay,
-        1,
-        Some(2),
-        None,
-    ),
-    (
-        &["/replay", "/capture:b", "/config:a"],
-        Work::Replay,
-        2,
-        Some(1),
-        None,
-    ),
-    (
-        &["/replay", "/capture:a", "/config:a"],
-        Work::Replay,
-        2,
-        Some(1),
-        None,
-    ),
-    (
-        &["/replay", "/config:a", "/capture:/config:"],
-        Work::Replay,
-        1,
-        Some(2),
-        None,
-    ),
-    (
-        &["/replay", "/capture:/config:b", "/config:a"],
-        Work::Replay,
-        2,
-        Some(1),
-        None,
-    ),
-    (
-        &["/replay", "/config:-", "/capture:-"],
-        Work::Replay,
-        1,
-        Some(2),
-        None,
-    ),
-    (
-        &["/replay", "/config:capture", "/capture: "],
-        Work::Replay,
-        1,
-        Some(2),
-        None,
-    ),
-];
-
-#[test]
-fn options_in_any_order(rt: HostRuntime) -> Result<(), Fail> {
-    for (texts, action, config, capture, port) in GOOD {
-        let words = words_of(rt.alloc(), texts)?;
-        let Ok(command) = read_words(&words) else {
-            return Err("words")?;
-        };
-        assert_eq!(rt; work_of(&command), Some(action), "{texts:?}");
-        assert_eq!(rt; command.config, Some(config), "{texts:?}");
-        assert_eq!(rt; command.keeper, None, "{texts:?}");
-        assert_eq!(rt; command.capture, capture, "{texts:?}");
-        assert_eq!(rt; command.port, port, "{texts:?}");
-    }
-    Ok(())
-}
-
-// Words of `/member`, and what they say: the turns, the words in which the paths of the settings, of the keeper's file
-// and of the capture stand, and the port.
-const MEMBERS: [(&[&str], u32, usize, usize, Option<usize>, Option<u16>); 12] = [
-    (
-        &["/member:1", "/config:a", "/keeper:b"],
-        1,
-        1,
-        2,
-        None,
-        None,
-    ),
-    (
-        &["/member:9", "/keeper:b", "/config:a"],
-        9,
-        2,
-        1,
-        None,
-        None,
-    ),
-    (
-        &["/member:999999", "/config:a", "/keeper:b"],
-        999_999,
-        1,
-        2,
-        None,
-        None,
-    ),
-    (
-        &["/member:1000000", "/config:a", "/keeper:b"],
-        1_000_000,
-        1,
-        2,
-        None,
-        None,
-    ),
-    (
-        &["/member:3", "/config:a", "/keeper:b", "/capture:c"],
-        3,
-        1,
-        2,
-        Some(3),
-        None,
-    ),
-    (
-        &["/member:3", "/config:a", "/keeper:b", "/port:1"],
-        3,
-        1,
-        2,
-        None,
-        Some(1),
-    ),
-    (
-        &["/member:3", "/config:a", "/port:65535", "/keeper:b"],
-        3,
-        1,
-        3,
-        None,
-        Some(65_535),
-    ),
-    (
-        &[
-            "/member:3",
-            "/config:a",
-            "/keeper:b",
-            "/capture:c",
-            "/port:123",
-        ],
-        3,
-        1,
-        2,
-        Some(3),
-        Some(123),
-    ),
-    (
-        &[
-            "/member:3",
-            "/port:123",
-            "/capture:c",
-            "/keeper:b",
-            "/config:a",
-        ],
-        3,
-        4,
-        3,
-        Some(2),
-        Some(123),
-    ),
-    (
-        &[
-            "/member:3",
-            "/capture:c",
-            "/config:a",
-            "/port:9",
-            "/keeper:b",
-        ],
-        3,
-        2,
-        4,
-        Some(1),
-        Some(9),
-    ),
+    (&["/dc:3", "/config: "], Work::Dc(3), [1, 0, 0, 0], 0),
+    (&["/dc:3", "/config::"], Work::Dc(3), [1, 0, 0, 0], 0),
+    (&["/dc:3", "/config:/port:5"], Work::Dc(3), [1, 0, 0, 0], 0),
+    (&["/dc:3", "/config:/port:0", "/port:5"], Work::Dc(3), [1, 0, 0, 0], 5),
+    (&["/dc:3", "/config:/config:"], Work::Dc(3), [1, 0, 0, 0], 0),
+    (&["/dc:3", "/config:ü"], Work::Dc(3), [1, 0, 0, 0], 0),
+    (&["/dc:3", "/config:a b\tc\nd"], Work::Dc(3), [1, 0, 0, 0], 0),
+    (&["/monitor", "/config:a"], Work::Monitor, [1, 0, 0, 0], 0),
+    (&["/monitor", "/config:a", "/port:1"], Work::Monitor, [1, 0, 0, 0], 1),
+    (&["/monitor", "/port:65535", "/config:a"], Work::Monitor, [2, 0, 0, 0], 65_535),
+    (&["/monitor", "/config:0"], Work::Monitor, [1, 0, 0, 0], 0),
+    (&["/replay", "/config:a"], Work::Replay, [1, 0, 0, 0], 0),
+    (&["/replay", "/config:a", "/capture:b"], Work::Replay, [1, 0, 2, 0], 0),
+    (&["/replay", "/capture:b", "/config:a"], Work::Replay, [2, 0, 1, 0], 0),
+    (&["/replay", "/capture:a", "/config:a"], Work::Replay, [2, 0, 1, 0], 0),
+    (&["/replay", "/config:a", "/capture:/config:"], Work::Replay, [1, 0, 2, 0], 0),
+    (&["/replay", "/capture:/config:b", "/config:a"], Work::Replay, [2, 0, 1, 0], 0),
+    (&["/replay", "/config:-", "/capture:-"], Work::Replay, [1, 0, 2, 0], 0),
+    (&["/replay", "/config:capture", "/capture: "], Work::Replay, [1, 0, 2, 0], 0),
+    (&["/member:1", "/config:a", "/keeper:b"], Work::Member(1), [1, 2, 0, 0], 0),
+    (&["/member:9", "/keeper:b", "/config:a"], Work::Member(9), [2, 1, 0, 0], 0),
+    (&["/member:999999", "/config:a", "/keeper:b"], Work::Member(999_999), [1, 2, 0, 0], 0),
+    (&["/member:1000000", "/config:a", "/keeper:b"], Work::Member(1_000_000), [1, 2, 0, 0], 0),
+    (&["/member:3", "/config:a", "/keeper:b", "/capture:c"], Work::Member(3), [1, 2, 3, 0], 0),
+    (&["/member:3", "/config:a", "/keeper:b", "/port:1"], Work::Member(3), [1, 2, 0, 0], 1),
+    (&["/member:3", "/config:a", "/port:65535", "/keeper:b"], Work::Member(3), [1, 3, 0, 0], 65_535),
+    (&["/member:3", "/config:a", "/keeper:b", "/capture:c", "/port:123"], Work::Member(3), [1, 2, 3, 0], 123),
+    (&["/member:3", "/port:123", "/capture:c", "/keeper:b", "/config:a"], Work::Member(3), [4, 3, 2, 0], 123),
+    (&["/member:3", "/capture:c", "/config:a", "/port:9", "/keeper:b"], Work::Member(3), [2, 4, 1, 0], 9),
     // One path may stand in more than one word, and look like an option.
-    (
-        &["/member:3", "/keeper:a", "/capture:a", "/config:a"],
-        3,
-        3,
-        1,
-        Some(2),
-        None,
-    ),
-    (
-        &["/member:3", "/keeper:/config:", "/config:/keeper:"],
-        3,
-        2,
-        1,
-        None,
-        None,
-    ),
+    (&["/member:3", "/keeper:a", "/capture:a", "/config:a"], Work::Member(3), [3, 1, 2, 0], 0),
+    (&["/member:3", "/keeper:/config:", "/config:/keeper:"], Work::Member(3), [2, 1, 0, 0], 0),
+    // The samples of a member's clock.
+    (&["/member:3", "/config:a", "/keeper:b", "/clock:c"], Work::Member(3), [1, 2, 0, 3], 0),
+    (&["/member:3", "/clock:/clock:", "/keeper:b", "/config:a"], Work::Member(3), [3, 2, 0, 1], 0),
+    (&["/member:3", "/port:5", "/clock:a", "/capture:a", "/keeper:a", "/config:a"], Work::Member(3), [5, 4, 3, 2], 5),
 ];
 
-#[test]
-fn options_of_a_member(rt: HostRuntime) -> Result<(), Fail> {
-    for (texts, turns, config, keeper, capture, port) in MEMBERS {
-        let words = words_of(rt.alloc(), texts)?;
-        let Ok(command) = read_words(&words) else {
-            return Err("words")?;
-        };
-        assert_eq!(rt; work_of(&command), Some(Work::Member(turns)), "{texts:?}");
-        assert_eq!(rt; command.config, Some(config), "{texts:?}");
-        assert_eq!(rt; command.keeper, Some(keeper), "{texts:?}");
-        assert_eq!(rt; command.capture, capture, "{texts:?}");
-        assert_eq!(rt; command.port, port, "{texts:?}");
-    }
-    Ok(())
-}
-
-const BAD: [&[&str]; 114] = [
+const BAD: &[&[&str]] = &[
     // The command.
     &["/dc", "/config:a"],
     &["/dc:", "/config:a"],
@@ -396,6 +145,20 @@ const BAD: [&[&str]; 114] = [
     &["/config:a", "/dc:1"],
     &["/config:a", "/monitor"],
     &["/port:123", "/dc:1", "/config:a"],
+    // Commands that there are not.
+    &["/query"],
+    &["/source"],
+    &["/bits"],
+    &["/service:1"],
+    &["/service:1", "/config:a"],
+    &["/resync"],
+    &["/simulate:1:2"],
+    &["/relay:1"],
+    &["/relay:1", "/config:a"],
+    &["/vote"],
+    &["/vote", "/config:a"],
+    &["/signd:1"],
+    &["/signd:1", "/config:a"],
     // What is required is missing.
     &["/dc:1"],
     &["/dc:1", "/port:123"],
@@ -422,6 +185,9 @@ const BAD: [&[&str]; 114] = [
     &["/member:1", "/config:a", "/keeper"],
     &["/member:1", "/config:a", "/Keeper:b"],
     &["/member:1", "/config:a", "/keeper:b", "/capture:"],
+    &["/member:1", "/config:a", "/keeper:b", "/clock:"],
+    &["/member:1", "/config:a", "/keeper:b", "/clock"],
+    &["/member:1", "/config:a", "/keeper:b", "/Clock:c"],
     &["/replay", "/config:a", "/capture:"],
     &["/replay", "/config:a", "/capture"],
     &["/replay", "/config:a", "/Capture:b"],
@@ -443,14 +209,9 @@ const BAD: [&[&str]; 114] = [
     // An option twice.
     &["/member:1", "/config:a", "/keeper:b", "/config:a"],
     &["/member:1", "/keeper:b", "/config:a", "/keeper:c"],
-    &[
-        "/member:1",
-        "/config:a",
-        "/keeper:b",
-        "/capture:c",
-        "/capture:c",
-    ],
+    &["/member:1", "/config:a", "/keeper:b", "/capture:c", "/capture:c"],
     &["/member:1", "/port:5", "/config:a", "/keeper:b", "/port:5"],
+    &["/member:1", "/clock:c", "/config:a", "/keeper:b", "/clock:c"],
     &["/dc:1", "/config:a", "/config:b"],
     &["/dc:1", "/config:a", "/config:a"],
     &["/dc:1", "/port:5", "/config:a", "/port:6"],
@@ -463,6 +224,9 @@ const BAD: [&[&str]; 114] = [
     &["/dc:1", "/config:a", "/keeper:b"],
     &["/monitor", "/config:a", "/keeper:b"],
     &["/replay", "/config:a", "/keeper:b"],
+    &["/dc:1", "/config:a", "/clock:c"],
+    &["/monitor", "/config:a", "/clock:c"],
+    &["/replay", "/config:a", "/clock:c"],
     &["/member:1", "/config:a", "/keeper:b", "/rpcport:5"],
     &["/member:1", "/config:a", "/keeper:b", "/member:1"],
     &["/member:1", "/config:a", "/keeper:b", ""],
@@ -471,13 +235,56 @@ const BAD: [&[&str]; 114] = [
     &["/dc:1", "/config:a", ""],
     &["/sign:1103:00000000000000000000000000000000", "/config:a"],
     &["/show:00", "/capture:b"],
+    &["/sign:1103:00000000000000000000000000000000", "/clock:c"],
+    &["/show:00", "/clock:c"],
+    // Words of `/sign` and `/show`.
+    &[],
+    &[""],
+    &["sign:1103:00000000000000000000000000000000"],
+    &["/sign"],
+    &["/sign:"],
+    &["/sign:1103"],
+    &["/sign:1103:"],
+    &["/SIGN:1103:00000000000000000000000000000000"],
+    &[" /sign:1103:00000000000000000000000000000000"],
+    &["/sign:1103:00000000000000000000000000000000 "],
+    &["/sign::00000000000000000000000000000000"],
+    &["/sign:01103:00000000000000000000000000000000"],
+    &["/sign:00:00000000000000000000000000000000"],
+    &["/sign:+5:00000000000000000000000000000000"],
+    &["/sign:-0:00000000000000000000000000000000"],
+    &["/sign:4294967296:00000000000000000000000000000000"],
+    &["/sign:1103:0000000000000000000000000000000"],
+    &["/sign:1103:000000000000000000000000000000000"],
+    &["/sign:1103:0000000000000000000000000000000g"],
+    &["/sign:1103:00000000000000000000000000000000:"],
+    &["/sign:1103::00000000000000000000000000000000"],
+    &["/sign:1103:00000000000000000000000000000000:0000000000000000000000000000000"],
+    &["/sign:1103:00000000000000000000000000000000:00000000000000000000000000000000:"],
+    &["/sign:1103:00000000000000000000000000000000", ""],
+    &["/sign:1103:00000000000000000000000000000000", "/port:123"],
+    &["/show"],
+    &["/show:0"],
+    &["/show:0g"],
+    &["/show: 00"],
+    &["/show:00:00"],
+    &["/show:00", "/show:00"],
 ];
 
 #[test]
-fn bad_options(rt: HostRuntime) -> Result<(), Fail> {
+fn words_of_commands(rt: HostRuntime) -> Result<(), AllocError> {
+    for (texts, work, places, port) in GOOD {
+        let said = said_by(&words_of(rt.alloc(), texts)?);
+        assert_eq!(rt; said, Some((*work, *places, *port)), "{texts:?}");
+    }
+    Ok(())
+}
+
+#[test]
+fn bad_words(rt: HostRuntime) -> Result<(), AllocError> {
     for texts in BAD {
-        let words = words_of(rt.alloc(), texts)?;
-        assert!(rt; matches!(read_words(&words), Err(BadWords)), "{texts:?}");
+        let said = said_by(&words_of(rt.alloc(), texts)?);
+        assert_eq!(rt; said, None, "{texts:?}");
     }
     Ok(())
 }

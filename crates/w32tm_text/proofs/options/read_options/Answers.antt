@@ -5,7 +5,7 @@ use Rattle.w32tm_text.proofs.Taking.{all_taken, is_complete, keeps_action, one_c
 use Rattle.w32tm_text.proofs.options.read_options.Goals as goal
 
 pub loop-place-init : goal.loop-place-init
-loop-place-init c = record { took = took_nothing (texts c.args.words.now.items) _ refl refl refl refl; action = refl }
+loop-place-init c = record { took = took_nothing (texts c.args.words.now.items) _ refl refl refl refl refl; action = refl }
 
 pub loop-place-preserved : goal.loop-place-preserved
 loop-place-preserved c =
