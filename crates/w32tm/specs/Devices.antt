@@ -1,6 +1,8 @@
 -- What the commands open.
-use Rattle.std.specs.Prelude.{◌≡◌, ℕ, List, ◌++◌, slice_get, Option, Some, None, String}
+use Rattle.std.specs.Prelude.{◌≡◌, ℕ, Bool, true, false, List, ◌++◌, slice_get, Option, Some, None, String, is_some, option_map, unwrap_or}
 use Rattle.std.specs.declared.alloc.Global.{Global}
+use Rattle.edge_io.specs.declared.random.RandomFile.{RandomFile}
+use Rattle.edge_io.specs.declared.udp_link.UdpLink.{UdpLink}
 use Rattle.w32tm_text.specs.declared.words.Action.{Action}
 use Rattle.w32tm_text.specs.declared.words.Action.TheVariants.{Sign, Show, Dc, Member, Monitor, Replay}
 use Rattle.w32tm_text.specs.declared.words.Command.{Command}
@@ -19,6 +21,33 @@ default_port (Dc turns) = Some 123
 default_port (Member turns) = Some 0
 default_port Monitor = Some 0
 default_port Replay = None
+
+-- the local port of a command's link, if there is a command with one: that which the words name, and else its own
+abbrev pub port_by : Option Command → Option ℕ
+port_by None = None
+port_by (Some command) = option_map (λ port. unwrap_or command.port port) (default_port command.action)
+
+-- which commands draw random words
+abbrev pub draws : Action → Bool
+draws (Sign account) = false
+draws (Show bytes) = false
+draws (Dc turns) = false
+draws (Member turns) = true
+draws Monitor = true
+draws Replay = false
+
+-- whether there is a command that draws them
+abbrev pub draws_by : Option Command → Bool
+draws_by None = false
+draws_by (Some command) = draws command.action
+
+-- whether a link has a socket
+abbrev pub has_socket : UdpLink → Bool
+has_socket link = is_some link.socket
+
+-- whether there is a file of random words
+abbrev pub has_words : {F : Type 0} → RandomFile F → Bool
+has_words words = is_some words.reader
 
 -- the word of the capture that a command reads: `/replay` reads it, and no other command does
 abbrev pub capture_read : Action → Option ℕ → Option ℕ

@@ -2,7 +2,7 @@
 //! open nothing. What can't be opened is a device each call of which fails.
 ghost use Rattle.std.specs.Prelude.{◌≡◌, ◌++◌, ℕ, List, IfOk, IfSome, IsSomeAnd, None, Some, codes, false, option_map, true, unwrap_or};
 ghost use Rattle.slot_disk.specs.File.{is_open};
-ghost use Rattle.w32tm.specs.Devices.{HasPathAt, capture_read, capture_recorded, default_port};
+ghost use Rattle.w32tm.specs.Devices.{HasPathAt, capture_read, capture_recorded, default_port, draws_by, has_socket, has_words, port_by};
 ghost use Rattle.w32tm.specs.Input.{is_closed, is_standard};
 ghost use Rattle.w32tm.specs.Output.{is_file, is_null};
 
@@ -116,8 +116,11 @@ pub(crate) fn capture_recorded(command: &Command) -> Option<usize>
 }
 
 /// The link, on the local port that the words name, or on that of the command.
-pub(crate) fn link_of<R: Net>(net: &R, command: Option<&Command>) -> UdpLink {
-    let Some(port) = command.and_then(port_of) else {
+pub(crate) fn link_of<R: Net>(net: &R, command: &Option<Command>) -> UdpLink
+    // Words that spell no command bind no port, nor does a command that has none.
+    ensures no_port { port_by command.now ≡ None → has_socket result ≡ false }
+{
+    let Some(port) = port_by(command) else {
         return UdpLink::without_socket();
     };
     match UdpLink::bind(net, port) {
@@ -127,24 +130,31 @@ pub(crate) fn link_of<R: Net>(net: &R, command: Option<&Command>) -> UdpLink {
 }
 
 /// The random words, which `/member` and `/monitor` draw.
-pub(crate) fn entropy_of<R: Files>(files: &R, command: Option<&Command>) -> RandomFile<R::File> {
-    let Some(
-        Command {
-            action: Action::Member(_) | Action::Monitor,
-            ..
-        },
-    ) = command
-    else {
+pub(crate) fn entropy_of<R: Files>(files: &R, command: &Option<Command>) -> RandomFile<R::File>
+    // The others open no file of random words.
+    ensures no_draws { draws_by command.now ≡ false → has_words result ≡ false }
+{
+    if !draws_by(command) {
         return RandomFile::without_file();
-    };
+    }
     match random_file(files) {
         Ok(words) => words,
         Err(_) => RandomFile::without_file(),
     }
 }
 
+/// Whether there is a command that draws random words.
+fn draws_by(command: &Option<Command>) -> bool
+    ensures { result ≡ draws_by command.now }
+{
+    match command {
+        Some(command) => matches!(command.action, Action::Member(_) | Action::Monitor),
+        None => false,
+    }
+}
+
 /// The path in the word of this place, behind the name of its option.
-fn path_in<'a>(words: &'a Vec<String>, place: Option<usize>, name: &str) -> Option<&'a str>
+pub(crate) fn path_in<'a>(words: &'a Vec<String>, place: Option<usize>, name: &str) -> Option<&'a str>
     ensures read { IfSome result (λ path. IsSomeAnd place
         (λ at. HasPathAt name.now words.now.items at path.now)) }
     ensures found { (at : ℕ) (path : List ℕ) → place ≡ Some at
@@ -163,6 +173,16 @@ fn file_input<R: Files, I: Read>(
     match file_source(files, path) {
         Ok(source) => Input::File(source),
         Err(_) => Input::Closed(ClosedSource::new()),
+    }
+}
+
+/// The local port of the command's link. None where there is no command, or one without a link.
+pub(crate) fn port_by(command: &Option<Command>) -> Option<u16>
+    ensures { result ≡ port_by command.now }
+{
+    match command {
+        Some(command) => port_of(command),
+        None => None,
     }
 }
 
@@ -203,7 +223,7 @@ mod tests {
         ] {
             let words = owned(rt.alloc(), words)?;
             let command = read_words(&words).ok();
-            assert_eq!(rt; command.as_ref().and_then(port_of), port, "{words:?}");
+            assert_eq!(rt; port_by(&command), port, "{words:?}");
         }
         Ok(())
     }
@@ -314,7 +334,7 @@ mod tests {
         ] {
             let words = owned(rt.alloc(), words)?;
             let command = read_words(&words).ok();
-            let word = entropy_of(&rt, command.as_ref()).word();
+            let word = entropy_of(&rt, &command).word();
             assert_eq!(rt; matches!(word, Drawn::Word(_)), draws, "{words:?}");
         }
         Ok(())
@@ -328,7 +348,7 @@ mod tests {
         let port = UdpLink::bind(&rt, 0)?.port()?;
         let named = format!(in alloc; "/port:{port}")?;
         let words = owned(alloc, &["/dc:1", "/config:a", named.as_str()])?;
-        let mut link = link_of(&rt, read_words(&words).ok().as_ref());
+        let mut link = link_of(&rt, &read_words(&words).ok());
         let to = Addr {
             ip: 0x7F00_0001,
             port,

@@ -9,45 +9,64 @@
 //! newcomer begins there.
 //!
 //! `devices.rt` opens what a command names and uses, and nothing else, and `outside.rt` hands each device in under its
-//! name. What can't be opened is handed in as a device each call of which fails. The devices are those of `edge_io`:
+//! name. What can't be opened is handed in as a device each call of which fails; where W32TM_EXPLAIN is 1, `explain.rt`
+//! says why. `streams.rt` has what main does before the run, for streams that are closed, and behind it: line and code. The devices are those of `edge_io`:
 //! files, standard input and output, a UDP socket, the machine's clock and its random words; the keeper's disk is the
 //! file of `slot_disk`. `input.rt` has the one type of all that is read, and `output.rt` of all that is written; the
 //! definitions of each stand in `specs/` under its name.
 #![tactic(auto)]
 
 mod devices;
+mod explain;
 mod input;
 mod output;
 mod outside;
+mod streams;
 
+use crate::explain::{explanation, is_asked};
 use crate::outside::outside_of;
+use crate::streams::{closed_streams, end_with};
+use edge_io::WriterSink;
 use std::alloc::AllocError;
 use std::io::{ErrorKind, Write};
 use std::process::ExitCode;
 use std::rt::Env;
 use std::{env, io};
-use w32tm_cmd::{Status, status_line, w32tm};
-use w32tm_text::read_words;
+use w32tm_cmd::{Status, w32tm};
+use w32tm_text::{Command, read_words};
 
 /// Carries out the words, prints the line of what went wrong, and ends with its code.
 fn main(rt: HostRuntime) -> ExitCode {
+    let _streams = closed_streams(&rt);
     let status = match words(&rt) {
-        Ok(words) => run(&rt, &words).unwrap_or(Status::NoMemory),
+        Ok(words) => carry_out(&rt, &words),
         Err(error) if error.kind() == ErrorKind::OutOfMemory => Status::NoMemory,
         // A word that isn't UTF-8 belongs to no command.
         Err(_) => Status::BadWords,
     };
-    if status != Status::Done {
-        let _ = rt.stderr().write_all(status_line(&status).as_slice());
-    }
-    ExitCode::from(status.code())
+    ExitCode::from(end_with(&mut WriterSink::new(rt.stderr()), &status))
 }
 
-/// Carries out the command that the words spell. The error is want of memory for the path of its record.
-fn run(rt: &HostRuntime, words: &Vec<String>) -> Result<Status, AllocError> {
-    // Words that spell no command open nothing, and are refused below.
+/// Carries out the command that the words spell, and prints what it could not open where the environment asks for it.
+fn carry_out(rt: &HostRuntime, words: &Vec<String>) -> Status {
+    // Words that spell no command open nothing, and are refused by the run.
     let command = read_words(words).ok();
-    let mut outside = outside_of(rt, rt.alloc(), rt.stdin(), rt.stdout(), words, &command)?;
+    let status = run(rt, words, &command).unwrap_or(Status::NoMemory);
+    if is_asked(rt)
+        && let Ok(text) = explanation(rt, rt.alloc(), words, &command, &status)
+    {
+        let _ = rt.stderr().write_all(text.as_bytes());
+    }
+    status
+}
+
+/// Carries out the command. The error is want of memory for the path of its record.
+fn run(
+    rt: &HostRuntime,
+    words: &Vec<String>,
+    command: &Option<Command>,
+) -> Result<Status, AllocError> {
+    let mut outside = outside_of(rt, rt.alloc(), rt.stdin(), rt.stdout(), words, command)?;
     Ok(w32tm(rt.alloc(), words, &mut outside))
 }
 
@@ -113,7 +132,8 @@ mod tests {
             {
                 words.push(String::from_str(alloc, word)?)?;
             }
-            assert_eq!(rt; run(&rt, &words)?, status, "{words:?}");
+            let command = read_words(&words).ok();
+            assert_eq!(rt; run(&rt, &words, &command)?, status, "{words:?}");
         }
         let events = fs::read(&rt, "run_files/events")?;
         assert!(rt; events.len() >= 30);

@@ -1,7 +1,7 @@
 //! All devices of a command, each under the name of what the command does with it.
 ghost use Rattle.std.specs.Prelude.{◌≡◌, IfOk, None, false, true};
 ghost use Rattle.slot_disk.specs.File.{is_open};
-ghost use Rattle.w32tm.specs.Devices.{config_by, keeper_by, read_by, recorded_by};
+ghost use Rattle.w32tm.specs.Devices.{config_by, draws_by, has_socket, has_words, keeper_by, port_by, read_by, recorded_by};
 ghost use Rattle.w32tm.specs.Input.{is_closed, is_standard};
 ghost use Rattle.w32tm.specs.Output.{is_file, is_null};
 
@@ -56,6 +56,11 @@ pub(crate) fn outside_of<
     ensures no_record { recorded_by command.now ≡ None
         → IfOk result (λ o. is_null o.capture_out ≡ true) }
     ensures no_keeper { keeper_by command.now ≡ None → IfOk result (λ o. is_open o.disk ≡ false) }
+
+    // Nor what the command doesn't use.
+    ensures no_link { port_by command.now ≡ None → IfOk result (λ o. has_socket o.link ≡ false) }
+    ensures no_entropy { draws_by command.now ≡ false
+        → IfOk result (λ o. has_words o.entropy ≡ false) }
 {
     let (config, keeper, read, recorded) = match command {
         Some(command) => (
@@ -71,9 +76,9 @@ pub(crate) fn outside_of<
         capture_in: capture_of(&rt, stdin, words, read),
         out: Output::Standard(WriterSink::new(stdout)),
         capture_out: record_of(rt, alloc, words, recorded)?,
-        link: link_of(&rt, command.as_ref()),
+        link: link_of(&rt, command),
         clock: RealClock::new(rt),
         disk: disk_of(&rt, words, keeper),
-        entropy: entropy_of(&rt, command.as_ref()),
+        entropy: entropy_of(&rt, command),
     })
 }
