@@ -59,8 +59,8 @@ abbrev pub capture_recorded : Action → Option ℕ → Option ℕ
 capture_recorded (Member turns) place = place
 capture_recorded action place = None
 
--- the words that name a file of this command, if there is a command: its settings, its keeper, and the capture that it
--- reads or records
+-- the words that name a file of this command, if there is a command: its settings, its keeper, the samples of its clock,
+-- and the capture that it reads or records
 abbrev pub config_by : Option Command → Option ℕ
 config_by None = None
 config_by (Some command) = command.config
@@ -68,6 +68,10 @@ config_by (Some command) = command.config
 abbrev pub keeper_by : Option Command → Option ℕ
 keeper_by None = None
 keeper_by (Some command) = command.keeper
+
+abbrev pub samples_by : Option Command → Option ℕ
+samples_by None = None
+samples_by (Some command) = command.clock
 
 abbrev pub read_by : Option Command → Option ℕ
 read_by None = None

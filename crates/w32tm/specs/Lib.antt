@@ -1,3 +1,4 @@
+pub mod Clock
 pub mod Devices
 pub mod Input
 pub mod Output

@@ -2,22 +2,24 @@
 //! open nothing. What can't be opened is a device each call of which fails.
 ghost use Rattle.std.specs.Prelude.{◌≡◌, ◌++◌, ℕ, List, IfOk, IfSome, IsSomeAnd, None, Some, codes, false, option_map, true, unwrap_or};
 ghost use Rattle.slot_disk.specs.File.{is_open};
+ghost use Rattle.w32tm.specs.Clock.{is_sampled};
 ghost use Rattle.w32tm.specs.Devices.{HasPathAt, capture_read, capture_recorded, default_port, draws_by, has_socket, has_words, port_by};
 ghost use Rattle.w32tm.specs.Input.{is_closed, is_standard};
 ghost use Rattle.w32tm.specs.Output.{is_file, is_null};
 
+use crate::clock::MachineClock;
 use crate::input::Input;
 use crate::output::Output;
 use edge_io::{
-    ClosedSource, FileSink, NullSink, RandomFile, ReaderSource, Sink, UdpLink, file_source,
-    random_file,
+    ClosedSource, FileSink, NullSink, RandomFile, ReaderSource, RealClock, SampleClock, Sink,
+    UdpLink, file_source, random_file,
 };
 use slot_disk::FileDisk;
 use std::alloc::{AllocError, Global};
 use std::fs::File;
 use std::io::Read;
 use std::net::Net;
-use std::rt::Files;
+use std::rt::{Clock, Files};
 use w32tm_text::{Action, Command};
 
 /// The port of a controller, where the words name none.
@@ -92,6 +94,28 @@ pub(crate) fn disk_of<R: Files<File = File>>(
     match path_in(words, place, "/keeper:") {
         Some(path) => FileDisk::open(files, path),
         None => FileDisk::without_file(),
+    }
+}
+
+/// The machine's clock: where a path is behind `/clock:` in the word of this place, each correction is a sample to it, and
+/// else the run corrects the clock. The error is want of memory for the path.
+pub(crate) fn clock_of<R: Files + Clock + Drop>(
+    rt: R,
+    alloc: Global,
+    words: &Vec<String>,
+    place: Option<usize>,
+) -> Result<MachineClock<RealClock<R>, SampleClock<R>>, AllocError>
+    ensures unnamed { place ≡ None → IfOk result (λ c. is_sampled c ≡ false) }
+    ensures named { (at : ℕ) (path : List ℕ) → place ≡ Some at
+        → HasPathAt (codes "/clock:") words.now.items at path
+        → IfOk result (λ c. is_sampled c ≡ true) }
+{
+    match path_in(words, place, "/clock:") {
+        Some(path) => {
+            let path = String::from_str(alloc, path)?;
+            Ok(MachineClock::Sampled(SampleClock::new(rt, path)))
+        }
+        None => Ok(MachineClock::Corrected(RealClock::new(rt))),
     }
 }
 

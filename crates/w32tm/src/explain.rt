@@ -21,7 +21,8 @@ pub(crate) fn is_asked<R: Env>(environment: &R) -> bool {
 /// A line for each thing that the command names and that can't be opened: its path or port, and the system's reason.
 ///
 /// Each is opened once more, as the run opened it. So the run must have closed its own, and what can be opened by now
-/// has no line. A capture that is recorded is tried only where a write failed, since the first write opens it.
+/// has no line. A capture that is recorded is tried only where a write failed, since the first write opens it, and the
+/// samples of a clock only where a reading failed.
 pub(crate) fn explanation<R: Files + Net>(
     rt: &R,
     alloc: Global,
@@ -39,6 +40,10 @@ pub(crate) fn explanation<R: Files + Net>(
         let mut kept = OpenOptions::new();
         kept.read(true).write(true).create(true);
         add_file(&mut text, rt, keeper, &kept)?;
+        if *status == Status::ClockFault {
+            let samples = path_in(words, command.clock, "/clock:");
+            add_file(&mut text, rt, samples, OpenOptions::new().read(true).write(true))?;
+        }
         if *status == Status::WriteFault {
             let record = path_in(words, capture_recorded(command), "/capture:");
             add_file(&mut text, rt, record, OpenOptions::new().write(true))?;
@@ -87,6 +92,11 @@ mod tests {
             &["/member:1", "/config:/dev/null", "/keeper:/", "/capture:/no/e"],
             Status::DiskFault,
             "w32tm: /: Is a directory (os error 21)\n",
+        ),
+        (
+            &["/member:1", "/config:/dev/null", "/keeper:/dev/null", "/clock:/no/s"],
+            Status::ClockFault,
+            "w32tm: /no/s: No such file or directory (os error 2)\n",
         ),
         (
             &["/member:1", "/config:/dev/null", "/keeper:/dev/null", "/capture:/no/e"],

@@ -12,10 +12,11 @@
 //! name. What can't be opened is handed in as a device each call of which fails; where W32TM_EXPLAIN is 1, `explain.rt`
 //! says why. `streams.rt` has what main does before the run, for streams that are closed, and behind it: line and code. The devices are those of `edge_io`:
 //! files, standard input and output, a UDP socket, the machine's clock and its random words; the keeper's disk is the
-//! file of `slot_disk`. `input.rt` has the one type of all that is read, and `output.rt` of all that is written; the
-//! definitions of each stand in `specs/` under its name.
+//! file of `slot_disk`. `input.rt` has the one type of all that is read, `output.rt` of all that is written, and `clock.rt`
+//! of the clock; the definitions of each stand in `specs/` under its name.
 #![tactic(auto)]
 
+mod clock;
 mod devices;
 mod explain;
 mod input;
@@ -60,7 +61,7 @@ fn carry_out(rt: &HostRuntime, words: &Vec<String>) -> Status {
     status
 }
 
-/// Carries out the command. The error is want of memory for the path of its record.
+/// Carries out the command. The error is want of memory for the path of its record or of its samples.
 fn run(
     rt: &HostRuntime,
     words: &Vec<String>,

@@ -1,16 +1,20 @@
 //! All devices of a command, each under the name of what the command does with it.
 ghost use Rattle.std.specs.Prelude.{◌≡◌, IfOk, None, false, true};
 ghost use Rattle.slot_disk.specs.File.{is_open};
-ghost use Rattle.w32tm.specs.Devices.{config_by, draws_by, has_socket, has_words, keeper_by, port_by, read_by, recorded_by};
+ghost use Rattle.w32tm.specs.Clock.{is_sampled};
+ghost use Rattle.w32tm.specs.Devices.{config_by, draws_by, has_socket, has_words, keeper_by, port_by, read_by, recorded_by, samples_by};
 ghost use Rattle.w32tm.specs.Input.{is_closed, is_standard};
 ghost use Rattle.w32tm.specs.Output.{is_file, is_null};
 
+use crate::clock::MachineClock;
 use crate::devices::{
-    capture_of, capture_read, capture_recorded, config_of, disk_of, entropy_of, link_of, record_of,
+    capture_of, capture_read, capture_recorded, clock_of, config_of, disk_of, entropy_of, link_of, record_of,
 };
 use crate::input::Input;
 use crate::output::Output;
-use edge_io::{FileSink, RandomFile, ReaderSource, RealClock, UdpLink, WriterSink};
+use edge_io::{
+    FileSink, RandomFile, ReaderSource, RealClock, SampleClock, UdpLink, WriterSink,
+};
 use slot_disk::FileDisk;
 use std::alloc::{AllocError, Global};
 use std::fs::File;
@@ -22,7 +26,7 @@ use w32tm_cmd::Outside;
 use w32tm_text::Command;
 
 /// The devices of this command of the words, with standard input and output where it uses these. The error is want of
-/// memory for the path of its record.
+/// memory for the path of its record or of its samples.
 pub(crate) fn outside_of<
     R: Files<File = File> + Net + Clock + Copy + Drop,
     I: Read + Drop,
@@ -39,7 +43,7 @@ pub(crate) fn outside_of<
         Input<ReaderSource<I>, ReaderSource<File>>,
         Output<WriterSink<W>, FileSink<R>>,
         UdpLink,
-        RealClock<R>,
+        MachineClock<RealClock<R>, SampleClock<R>>,
         FileDisk,
         RandomFile<File>,
     >,
@@ -57,19 +61,24 @@ pub(crate) fn outside_of<
         → IfOk result (λ o. is_null o.capture_out ≡ true) }
     ensures no_keeper { keeper_by command.now ≡ None → IfOk result (λ o. is_open o.disk ≡ false) }
 
+    // Without a path of samples the run corrects its clock.
+    ensures no_samples { samples_by command.now ≡ None
+        → IfOk result (λ o. is_sampled o.clock ≡ false) }
+
     // Nor what the command doesn't use.
     ensures no_link { port_by command.now ≡ None → IfOk result (λ o. has_socket o.link ≡ false) }
     ensures no_entropy { draws_by command.now ≡ false
         → IfOk result (λ o. has_words o.entropy ≡ false) }
 {
-    let (config, keeper, read, recorded) = match command {
+    let (config, keeper, samples, read, recorded) = match command {
         Some(command) => (
             command.config,
             command.keeper,
+            command.clock,
             capture_read(command),
             capture_recorded(command),
         ),
-        None => (None, None, None, None),
+        None => (None, None, None, None, None),
     };
     Ok(Outside {
         config: config_of(&rt, words, config),
@@ -77,7 +86,7 @@ pub(crate) fn outside_of<
         out: Output::Standard(WriterSink::new(stdout)),
         capture_out: record_of(rt, alloc, words, recorded)?,
         link: link_of(&rt, command),
-        clock: RealClock::new(rt),
+        clock: clock_of(rt, alloc, words, samples)?,
         disk: disk_of(&rt, words, keeper),
         entropy: entropy_of(&rt, command),
     })
