@@ -38,11 +38,11 @@ bad_words
 for word in "" /dc /dc: /dc:0 /dc:01 /dc:+1 /dc:1000001 /dc:1x /DC:1 dc:1 /monitor: /monitor:1 /replay: /help --help; do
     bad_words "$word" "$config"
 done
-for option in /port:0 /port:00123 /port:65536 /port:+5 /port: /port /capture:x /rpcport:1 "$config" /config /x ""; do
+for option in /port:0 /port:00123 /port:65536 /port:+5 /port: /port /capture:x /clock:x /rpcport:1 "$config" /config /x ""; do
     bad_words /dc:1 "$config" "$option"
     bad_words /monitor "$config" "$option"
 done
-for option in /port:12300 "$config" /capture: /capture /x; do bad_words /replay "$config" "$option"; done
+for option in /port:12300 "$config" /capture: /capture /clock:x /x; do bad_words /replay "$config" "$option"; done
 bad_words /replay "$config" "/capture:$folder/x" "/capture:$folder/x"
 for command in /dc:1 /monitor /replay; do
     bad_words $command
@@ -52,7 +52,7 @@ done
 bad_words /dc:1 /port:12300
 for word in /member /member: /member:0 /member:01 /member:1000001; do bad_words $word "$config" "/keeper:$folder/keeper"; done
 for option in "" /keeper: /keeper "/keeper:$folder/a /keeper:$folder/b" "/keeper:$folder/a /capture:" \
-    "/keeper:$folder/a /port:0" "/keeper:$folder/a /rpcport:1"; do
+    "/keeper:$folder/a /port:0" "/keeper:$folder/a /rpcport:1" "/keeper:$folder/a /clock:"; do
     bad_words /member:1 "$config" $option
 done
 bad_words /dc:1 "$config" "/keeper:$folder/keeper"
@@ -144,6 +144,24 @@ for words in "/dc:1 $config /port:$port" "/monitor $config" "/replay $member" "$
         failed=1
     fi
 done
+
+# Standard streams that are closed are no files of the run: its lines go nowhere, and not into the keeper's file.
+cases=$((cases + 1))
+$program $alone "$keeper" "/port:$port" <&- >&- 2>&-
+code=$?
+if [ $code != 5 ] || [ "$(wc -c <"$folder/keeper")" != 256 ] || grep -aq mark= "$folder/keeper"; then
+    echo "bad_input.sh: code $code where the standard streams are closed, or lines in the keeper's file" >&2
+    failed=1
+fi
+
+# The system's reason, where it is asked for, before the line of the status.
+cases=$((cases + 1))
+fault=$(W32TM_EXPLAIN=1 "$program" /dc:1 "/config:$folder/missing" 2>&1 >/dev/null </dev/null)
+if [ "$fault" != "w32tm: $folder/missing: No such file or directory (os error 2)
+w32tm: read fault" ]; then
+    echo "bad_input.sh: W32TM_EXPLAIN says '$fault'" >&2
+    failed=1
+fi
 
 [ $failed = 0 ] && echo "bad_input.sh: $cases cases, all as they should be"
 exit $failed
