@@ -1,13 +1,12 @@
 -- Parts of a run, one after another.
 use Rattle.std.proofs.Common.{◌≡◌, ℕ, zero, suc, ◌+◌, List, ◌++◌, length, length-append, map, flat_map, refl, sym, ◌∙◌, ap, subst, arith}
+use Rattle.std.specs.List.{count_by}
 use Rattle.std.proofs.lemmas.Bool.Decides.{nat_tests}
 use Rattle.std.proofs.lemmas.Grind.{flat_map-append}
 use Rattle.std.proofs.lemmas.List.{map-append}
 use Rattle.std.proofs.lemmas.List.Sums.{sum_by-append}
-use Rattle.edge_traits.specs.declared.link.Receipt.{Receipt}
-use Rattle.edge_traits.specs.declared.link.Tried.{Tried}
-use Rattle.edge_traits.specs.Link.{failed_receipts, failed_sends}
-use Rattle.edge_traits.proofs.Links.{failed_receipts-append, failed_sends-append}
+use Rattle.edge_traits.specs.Link.{LinkCall, receipts_among}
+use Rattle.edge_traits.proofs.Links.{failed_calls-append, receipts_among-append}
 use Rattle.capture_fmt.specs.declared.event.Event.{Event}
 use Rattle.time_machine.specs.declared.conf.Conf.{Conf}
 use Rattle.time_machine.specs.Events.{History}
@@ -22,9 +21,9 @@ use Rattle.run_deeds.specs.Weaving.{Need, Weaves}
 use Rattle.run_deeds.specs.Deeds.{Deed, Take, Ending, Whole, NoRecord, NoLine, along, all_done, events_given, history_after, moves_in, posted_in, reasons_in, ticks_in}
 use Rattle.run_deeds.specs.Devices.{Does, Faults, Given, LifeEndsBy, Seen}
 use Rattle.run_deeds.specs.Marks.{Reserved}
-use Rattle.run_deeds.specs.Parts.{Part, Runs, Tallies}
+use Rattle.run_deeds.specs.Parts.{Part, Runs, Tallies, is_quiet}
 use Rattle.run_deeds.proofs.Deeding.{all_done-append, along-append, events_given-append, follows, history_after-append}
-use Rattle.run_deeds.proofs.Doing.{does_then}
+use Rattle.run_deeds.proofs.Doing.{does_then, given_then}
 use Rattle.run_deeds.proofs.Weaves.{joined}
 
 -- so many, and then so many more
@@ -41,33 +40,31 @@ length_along : {A : Type 0} (f : History → Deed → List A) (history : History
 length_along f history ds es =
     sym (ap length (along-append f history ds es) ∙ length-append (along f history ds) (along f (history_after history ds) es))
 
-lost_more : (qs rs : List Receipt) (ts us : List Tried)
-    → (failed_receipts qs + failed_sends ts) + (failed_receipts rs + failed_sends us) ≡ failed_receipts (qs ++ rs) + failed_sends (ts ++ us)
-lost_more qs rs ts us = omega (arith, failed_receipts-append qs rs, failed_sends-append ts us)
+quiet_more : (xs ys : List LinkCall) → count_by is_quiet (receipts_among xs) + count_by is_quiet (receipts_among ys) ≡ count_by is_quiet (receipts_among (xs ++ ys))
+quiet_more xs ys = sym (ap (count_by is_quiet) (receipts_among-append xs ys) ∙ sum_by-append _ (receipts_among xs) (receipts_among ys))
 
-pub tallies_then : (conf : Conf) (history : History) (ds es : List Deed) (qs rs : List Receipt) (ts us : List Tried) (old mid new : LifeEnd)
-    → Tallies conf history ds qs ts old mid → Tallies conf (history_after history ds) es rs us mid new
-    → Tallies conf history (ds ++ es) (qs ++ rs) (ts ++ us) old new
-tallies_then conf history ds es qs rs ts us old mid new first second = record {
+pub tallies_then : (conf : Conf) (history : History) (ds es : List Deed) (xs ys : List LinkCall) (old mid new : LifeEnd)
+    → Tallies conf history ds xs old mid → Tallies conf (history_after history ds) es ys mid new
+    → Tallies conf history (ds ++ es) (xs ++ ys) old new
+tallies_then conf history ds es xs ys old mid new first second = record {
   sent = step old.sent mid.sent new.sent _ _ _ first.sent second.sent (length_along (posted_in conf) history ds es);
   moved = step old.moved mid.moved new.moved _ _ _ first.moved second.moved (length_along (moves_in conf) history ds es);
   refused = step old.refused mid.refused new.refused _ _ _ first.refused second.refused (length_along (reasons_in conf) history ds es);
-  quiet = step old.quiet mid.quiet new.quiet _ _ _ first.quiet second.quiet (sym (sum_by-append _ qs rs));
-  lost = step old.lost mid.lost new.lost _ _ _ first.lost second.lost (lost_more qs rs ts us);
+  quiet = step old.quiet mid.quiet new.quiet _ _ _ first.quiet second.quiet (quiet_more xs ys);
+  lost = step old.lost mid.lost new.lost _ _ _ first.lost second.lost (sym (failed_calls-append xs ys));
   turns = step old.turns mid.turns new.turns _ _ _ first.turns second.turns
       (sym (ap length (flat_map-append ticks_in ds es) ∙ length-append (flat_map ticks_in ds) (flat_map ticks_in es)));
   why = second.why ∙ first.why;
 }
 
 -- A part that ends well, and another: the whole of both, whose history is that behind the second, and whose last
--- deed is that one's. The first one's last
--- deed is whole.
+-- deed is that one's. The first one's last deed is whole.
 joined_runs : (conf : Conf) (from mid next : Need) (history : History) (a b c : Seen) (k0 k1 k2 : ℕ) (old between new : LifeEnd) (why : Why)
-    (given : Given) (tried : List Tried) (deeds : List Deed) (ending : Ending) (need : Need)
-    → Weaves conf from history given.readings given.words given.receipts (events_given deeds ending) need
-    → Does conf history given tried deeds ending a b
+    (given : Given) (deeds : List Deed) (ending : Ending) (need : Need)
+    → Weaves conf from history given.clock given.words given.link (events_given deeds ending) need
+    → Does conf history given deeds ending a b
     → (taken : List Event) → all_done deeds ending ≡ map Take taken
-    → Tallies conf history (all_done deeds ending) given.receipts tried old between
+    → Tallies conf history (all_done deeds ending) given.link old between
     → LifeEndsBy Done ending need a.faults b.faults
     → need ≡ mid
     → (Reserved k0 (told conf history) → Reserved k1 (told conf (history_after history (all_done deeds ending))))
@@ -75,24 +72,23 @@ joined_runs : (conf : Conf) (from mid next : Need) (history : History) (a b c : 
     → (all : Runs conf from next history a c k0 k2 old new why)
     × (history_after history (all_done all.deeds all.ending) ≡ history_after (history_after history (all_done deeds ending)) (all_done two.deeds two.ending))
     × (all.ending ≡ two.ending) × (all.need ≡ two.need)
-joined_runs conf from mid next history a b c k0 k1 k2 old between new why given tried deeds Whole need weaves does taken takes tallies ends well reserved two =
+joined_runs conf from mid next history a b c k0 k1 k2 old between new why given deeds Whole need weaves does taken takes tallies ends well reserved two =
     let follow = rw (follows history deeds) at two.weaves in
     let done = all_done-append deeds two.deeds two.ending in
     let after : history_after history (all_done (deeds ++ two.deeds) two.ending) ≡ history_after (history_after history deeds) (all_done two.deeds two.ending) =
     ap (history_after history) done ∙ history_after-append history deeds (all_done two.deeds two.ending) in
     let Ends : Faults → Type 0 = λ (f : Faults). LifeEndsBy why two.ending two.need f c.faults in (
       record {
-        given = record { readings = given.readings ++ two.given.readings; words = given.words ++ two.given.words; receipts = given.receipts ++ two.given.receipts };
-        tried = tried ++ two.tried;
+        given = given_then given two.given;
         deeds = deeds ++ two.deeds;
         ending = two.ending;
         need = two.need;
         weaves = rw (events_given-append deeds two.deeds two.ending) (joined (rw well at weaves) follow);
-        does = does_then conf history given two.given tried two.tried deeds two.deeds two.ending a b c does two.does;
+        does = does_then conf history given two.given deeds two.deeds two.ending a b c does two.does;
         taken = taken ++ two.taken;
         takes = done ∙ ap (λ (l : List Deed). deeds ++ l) two.takes ∙ ap (λ (l : List Deed). l ++ map Take two.taken) takes ∙ sym (map-append Take taken two.taken);
         grows = rw after two.grows;
-        tallies = rw done (tallies_then conf history deeds (all_done two.deeds two.ending) given.receipts two.given.receipts tried two.tried old between new tallies two.tallies);
+        tallies = rw done (tallies_then conf history deeds (all_done two.deeds two.ending) given.link two.given.link old between new tallies two.tallies);
         ends = subst Ends ends.1 two.ends;
         well = two.well;
         reserved = λ is was. rw after (two.reserved is (reserved was));
@@ -101,8 +97,8 @@ joined_runs conf from mid next history a b c k0 k1 k2 old between new why given 
       refl,
       refl,
     )
-joined_runs conf from mid next history a b c k0 k1 k2 old between new why given tried deeds (NoRecord event front) need weaves does taken takes tallies ends well reserved two = absurd ends.0
-joined_runs conf from mid next history a b c k0 k1 k2 old between new why given tried deeds (NoLine deed front) need weaves does taken takes tallies ends well reserved two = absurd ends.0
+joined_runs conf from mid next history a b c k0 k1 k2 old between new why given deeds (NoRecord event front) need weaves does taken takes tallies ends well reserved two = absurd ends.0
+joined_runs conf from mid next history a b c k0 k1 k2 old between new why given deeds (NoLine deed front) need weaves does taken takes tallies ends well reserved two = absurd ends.0
 
 -- a part that ends well, and another
 pub runs_then : (conf : Conf) (from mid next : Need) (history : History) (a b c : Seen) (k0 k1 k2 : ℕ) (old between new : LifeEnd) (why : Why)
@@ -112,7 +108,7 @@ pub runs_then : (conf : Conf) (from mid next : Need) (history : History) (a b c 
     × (history_after history (all_done all.deeds all.ending) ≡ history_after (history_after history (all_done one.deeds one.ending)) (all_done two.deeds two.ending))
     × (all.ending ≡ two.ending) × (all.need ≡ two.need)
 runs_then conf from mid next history a b c k0 k1 k2 old between new why one two =
-    joined_runs conf from mid next history a b c k0 k1 k2 old between new why one.given one.tried one.deeds one.ending one.need
+    joined_runs conf from mid next history a b c k0 k1 k2 old between new why one.given one.deeds one.ending one.need
     one.weaves one.does one.taken one.takes one.tallies one.ends (one.well refl) (one.reserved refl) two
 
 -- the same with the member: the second part is one of each history for which the member behind the first one stands

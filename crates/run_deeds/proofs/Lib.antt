@@ -1,5 +1,6 @@
 pub mod Deeding
 pub mod Weaves
+pub mod Orders
 pub mod Doing
 pub mod Composing
 pub mod Stopping

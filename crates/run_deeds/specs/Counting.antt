@@ -5,7 +5,8 @@ use Rattle.time_machine.specs.declared.outcome.Outcome.{Outcome}
 use Rattle.time_machine.specs.Machine.{posted_by, moves_by}
 use Rattle.run_deeds.specs.declared.life_end.LifeEnd.{LifeEnd}
 use Rattle.run_deeds.specs.declared.life_end.Why.{Why}
-use Rattle.run_deeds.specs.Deeds.{reasons_by, ticks_by}
+use Rattle.run_deeds.specs.Deeds.{reasons_by}
+use Rattle.run_deeds.specs.Weaving.{ticks_by}
 
 -- so many more, as far as 32 bits go
 abbrev pub more : ℕ → ℕ → ℕ

@@ -1,5 +1,5 @@
 -- What the devices of a run tell, and what a part of a run was given and did.
-use Rattle.std.specs.Prelude.{◌≡◌, ℕ, ◌<◌, List, map, Option, ⊤}
+use Rattle.std.specs.Prelude.{◌≡◌, ℕ, ◌<◌, List, [], map, Option, ⊤}
 use Rattle.std.specs.List.{AllByRecursion}
 use Rattle.base_specs.specs.Counts.{Fails, FailsTimes, Rose}
 use Rattle.base_specs.specs.Told.{Added, Grew}
@@ -50,6 +50,10 @@ pub record Given : Type 0 where
   pub clock : List ClockCall
   pub words : List ℕ
   pub link : List LinkCall
+
+-- no device gave or took anything
+abbrev pub nothing : Given
+nothing = record { clock = []; words = []; link = [] }
 
 -- All that the devices gave and took from one moment to another: these are their calls, and of these deeds, after this
 -- history, each record was written, each request sent, each correction made and each line printed.

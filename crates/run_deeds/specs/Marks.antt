@@ -5,7 +5,7 @@ use Rattle.capture_fmt.specs.declared.event.Event.{Event}
 use Rattle.capture_fmt.specs.declared.event.Event.TheVariants.{Life, Tick, Resync, Arrive}
 use Rattle.slot_disk.specs.Told.{DiskTold}
 use Rattle.stamp_keep.specs.Image.{mark_of_image}
-use Rattle.stamp_keep.specs.Keep.{KeepsMarks, RefusedAsBefore, StandsAsBefore}
+use Rattle.stamp_keep.specs.Keep.{KeepsMarks, RefusedAsBefore}
 use Rattle.time_machine.specs.Entries.{after_last, count_of, last_of}
 use Rattle.time_machine.specs.Events.{mark_of}
 use Rattle.time_machine.specs.Told.{Told, has_sent}
@@ -51,10 +51,6 @@ pub record MarksBeforeSends (entry now : DiskTold) (mark : ℕ) (before : List T
   pub above : AllByRecursion (λ r. mark < r.count) (all_sent before)
   pub covered : (image : List ℕ) → now.may_leave image → AllByRecursion (λ r. r.count ≤ mark_of_image image) (all_sent before)
   pub least : KeepsMarks entry now
-
--- each image stands for a mark that one before stood for
-pub record AddsNoMark (old new : DiskTold) : Type 0 where
-  pub each : (image : List ℕ) → new.may_leave image → StandsAsBefore old image
 
 -- where a load refuses an image, it refuses one before
 pub record KeepsLoadable (old new : DiskTold) : Type 0 where

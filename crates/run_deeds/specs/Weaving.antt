@@ -114,7 +114,7 @@ behind_arrival left outcome = if is_some (offset_moved outcome) then Call else r
 -- turn, and give these events, the first one first. What an event leads to is done right behind it.
 pub data Weaves (conf : Conf) : Need → History → List ClockCall → List ℕ → List LinkCall → List Event → Need → Type 0 where
   none : {need : Need} {history : History} → Weaves conf need history [] [] [] [] need
-  acts : {outcome : Outcome} {behind need : Need} {history : History} {tried : List Tried} {cs : List ClockCall} {ws : List ℕ} {ls : List LinkCall} {es : List Event}
+  acts : {outcome : Outcome} {behind need : Need} {history : History} {cs : List ClockCall} {ws : List ℕ} {ls : List LinkCall} {es : List Event} (tried : List Tried)
       → map posted_of tried ≡ posted_by outcome
       → Weaves conf behind history cs ws ls es need
       → Weaves conf (Act outcome behind) history (map Correct (moves_by outcome) ++ cs) ws (map Send tried ++ ls) es need

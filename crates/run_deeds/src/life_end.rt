@@ -42,7 +42,7 @@ pub struct LifeEnd {
 
 impl LifeEnd {
     ghost use Rattle.std.specs.Prelude.{◌≡◌, length};
-    ghost use Rattle.run_deeds.specs.Deeds.{ticks_by};
+    ghost use Rattle.run_deeds.specs.Weaving.{ticks_by};
     ghost use Rattle.run_deeds.specs.Counting.{counted, ended, more};
     ghost use Rattle.run_deeds.specs.Counting.{with_lost, with_outcome, with_quiet};
 
