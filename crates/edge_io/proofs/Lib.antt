@@ -1,5 +1,6 @@
 mod Fronts
 mod Marks
+mod Samples
 mod Servo
 mod Sessions
 mod Slews

@@ -7,6 +7,9 @@ pub mod Held
 pub mod LateFile
 pub mod LinkScript
 pub mod Pieces
+pub mod Sample
+pub mod SampleClock
+pub mod Scaling
 pub mod Servo
 pub mod SessionScript
 pub mod SinkScript

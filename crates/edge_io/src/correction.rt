@@ -120,7 +120,7 @@ fn worked_off(slew: i64, passed: u128) -> i128
 }
 
 /// The moment, where it is one that a clock reads.
-fn reading_of(moment: i128) -> Option<i64>
+pub(crate) fn reading_of(moment: i128) -> Option<i64>
     ensures { SomeIff result (IsReading moment) moment }
 {
     if (0..=LAST_READING).contains(&moment) {

@@ -1,6 +1,6 @@
 //! The devices behind the traits of `edge_traits`: objects in memory, and the devices of the machine.
 //!
-//! It stands on `edge_traits` and on the counts of `base_specs`. The layers that only speak of devices stand on
+//! It stands on `edge_traits`, on the counts of `base_specs` and on the codecs of `byte_codec`. The layers that only speak of devices stand on
 //! `edge_traits` alone. Those that make devices, as main and the tests, stand on this crate too; it hands on the traits
 //! and their answers.
 //!
@@ -11,18 +11,22 @@
 //! `LinkEntry` or `ClockEntry` each, so that their order is told. The memory of the lists is taken when the object is
 //! made.
 //!
-//! An adapter (`ReaderSource`, `WriterSink`, `FileSink`, `RealClock`, `UdpLink`, `RandomFile`) tells nothing, and says
-//! what it makes of what the reader, the writer or the machine's clock gave. What these give is trusted, and what a
-//! socket gives and takes. `file_source` and `random_file` open files. A `FileSink` opens its file with the first piece,
-//! so a file to which nothing is written stays as it was. What can't be opened is a `ClosedSource`, a `FileSink` without
-//! a file, a link without a socket or words without a file: each call fails. `NullSink` takes all and keeps nothing.
+//! An adapter (`ReaderSource`, `WriterSink`, `FileSink`, `RealClock`, `SampleClock`, `UdpLink`, `RandomFile`) tells
+//! nothing, and says what it makes of what the reader, the writer or the machine's clock gave. What these give is trusted,
+//! and what a socket gives and takes. `file_source` and `random_file` open files. A `FileSink` opens its file with the
+//! first piece, so a file to which nothing is written stays as it was. What can't be opened is a `ClosedSource`, a
+//! `FileSink` without a file, a link without a socket or words without a file: each call fails. `NullSink` takes all and
+//! keeps nothing.
+//!
+//! A `RealClock` makes its corrections itself and leaves the machine's clock as it is; a `SampleClock` reads the machine's
+//! clock and hands each correction to chronyd, as a sample.
 //!
 //! `laws_of_corrections`: a `RealClock` that is slewed by its offset never goes away from an even reference, and comes to
 //! it.
 //!
 //! The definitions stand in `specs/`: a file of its own for each object, `Calls`, `Pieces`, `Writes` and `SessionScript`
-//! for their parts, `Held`, `LateFile`, `CorrectedClock`, `Correction` and `Servo` for the adapters. Those of the traits
-//! are handed on.
+//! for their parts, `Held`, `LateFile`, `CorrectedClock`, `Correction`, `Servo`, `Sample`, `Scaling` and `SampleClock`
+//! for the adapters. Those of the traits are handed on.
 #![tactic(auto)]
 
 mod calls;
@@ -37,6 +41,8 @@ mod pieces;
 mod random;
 mod reader;
 mod real_clock;
+mod sample;
+mod sample_clock;
 mod session;
 mod sink;
 mod source;
@@ -60,6 +66,7 @@ pub use link::{LinkEntry, ScriptLink};
 pub use random::{RandomFile, random_file};
 pub use reader::{ReaderSource, file_source};
 pub use real_clock::RealClock;
+pub use sample_clock::SampleClock;
 pub use sink::{NullSink, ScriptSink};
 pub use source::ScriptSource;
 pub use udp_link::UdpLink;

@@ -138,13 +138,17 @@ impl<R: rt::Clock + Drop> Clock for RealClock<R> {
     }
 }
 
-/// What the machine's clock reads, where it can be had.
-fn machine_ticks<R: rt::Clock>(rt: &R) -> Option<u128>
+/// What the machine's clock reads, where it can be had, in ticks of 100 ns since 1 January 1601.
+pub(crate) fn machine_ticks<R: rt::Clock>(rt: &R) -> Option<u128>
     ensures { IfSome result (λ ticks. ticks < 2 ^ 100) }
 {
+    Some(ticks_since_1601(since_1970(rt)?))
+}
+
+/// How long it is since 1 January 1970 on the machine's clock, where that can be had and is no earlier.
+pub(crate) fn since_1970<R: rt::Clock>(rt: &R) -> Option<Duration> {
     let now = SystemTime::now(rt).ok()?;
-    let since_1970 = now.duration_since(SystemTime::UNIX_EPOCH).ok()?;
-    Some(ticks_since_1601(since_1970))
+    now.duration_since(SystemTime::UNIX_EPOCH).ok()
 }
 
 /// The moment so long after 1 January 1970, in ticks of 100 ns since 1 January 1601.

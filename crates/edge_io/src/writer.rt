@@ -79,7 +79,7 @@ fn write_whole<W: Write>(writer: &mut W, piece: &[u8]) -> bool
 }
 
 /// Writes, and again as long as a signal cuts the write short. It gives up after 2^64 - 1 of them.
-fn write_again<W: Write>(writer: &mut W, piece: &[u8]) -> io::Result<usize>
+pub(crate) fn write_again<W: Write>(writer: &mut W, piece: &[u8]) -> io::Result<usize>
     ensures within { IfOk result (λ count. count ≤ length piece.now) }
     ensures content { WriteAppends (W.contents writer.old) (W.contents writer.new)
         result piece.now }
