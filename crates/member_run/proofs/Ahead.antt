@@ -1,13 +1,15 @@
 -- A run sends one request a turn at most.
-use Rattle.std.proofs.Common.{◌≡◌, ◌+◌, ◌≤◌, ℕ, ℤ, Bool, true, false, List, [], ◌∷◌, if◌then◌else◌, refl, arith}
+use Rattle.std.proofs.Common.{◌≡◌, ◌+◌, ◌≤◌, ℕ, suc, ℤ, Bool, true, false, List, [], ◌∷◌, if◌then◌else◌, refl, arith}
 use Rattle.edge_traits.specs.declared.datagram.Addr.{Addr}
-use Rattle.edge_traits.specs.declared.link.Receipt.{Receipt}
+use Rattle.edge_traits.specs.Clock.{ClockCall}
+use Rattle.edge_traits.specs.Link.{LinkCall}
 use Rattle.capture_fmt.specs.declared.event.Event.{Event}
 use Rattle.capture_fmt.specs.declared.event.Event.TheVariants.{Life, Tick, Arrive}
 use Rattle.member_run.proofs.Blocks.{sends_in}
 use Rattle.run_deeds.specs.Devices.{NeedsCount}
-use Rattle.run_deeds.specs.Weaving.{Need, Start, Stood, Turns, Weaves, none, life, reads, draws, gets, quiet, lost, arrives, followed_by}
+use Rattle.run_deeds.specs.Weaving.{Need, Start, Stood, Turns, WordFor, ReceiptNow, ReadingFor, Act, Weaves, none, acts, life, reads, draws, gets, quiet, lost, arrives, followed_by}
 use Rattle.time_machine.specs.declared.conf.Conf.{Conf}
+use Rattle.time_machine.specs.declared.outcome.Outcome.{Outcome}
 use Rattle.time_machine.specs.Events.{History}
 use Rattle.time_machine.specs.Machine.{told, told_by}
 use Rattle.time_machine.specs.Told.{has_sent}
@@ -33,25 +35,43 @@ arrive_sends conf history now from bytes =
     let w = words conf (told conf history) in
     none_more (has_sent (told_by conf w (Arrive now from bytes))) (sends_in conf history) (sends_so conf w (Arrive now from bytes))
 
--- where one more count is needed, there were more turns than requests
-turns_ahead : {conf : Conf} {left : ℕ} {history : History} {rs : List ℤ} {ws : List ℕ} {qs : List Receipt} {es : List Event} {need : Need}
-    → Weaves conf (Turns left) history rs ws qs es need → NeedsCount need → 1 + sends_in conf (followed_by history es) ≤ sends_in conf history + left
-turns_ahead none some = omega (arith, some)
-turns_ahead (reads none) some = absurd some
-turns_ahead (reads (draws none)) some = absurd some
-turns_ahead (reads (draws (gets none))) some = absurd some
-turns_ahead {conf = conf} {history = history} (reads {now = now} (draws {word = word} (gets {from = from} {bytes = bytes} (arrives {now = later} s)))) some =
-    omega (arith, turns_ahead s some, tick_sends conf history now word, arrive_sends conf (Tick now word ∷ history) later from bytes)
-turns_ahead {conf = conf} {history = history} (reads {now = now} (draws {word = word} (quiet s))) some =
-    omega (arith, turns_ahead s some, tick_sends conf history now word)
-turns_ahead {conf = conf} {history = history} (reads {now = now} (draws {word = word} (lost s))) some =
-    omega (arith, turns_ahead s some, tick_sends conf history now word)
+mutual
+  -- where one more count is needed, there were more turns than requests
+  turns_ahead : {conf : Conf} {left : ℕ} {history : History} {cs : List ClockCall} {ws : List ℕ} {ls : List LinkCall} {es : List Event} {need : Need}
+      → Weaves conf (Turns left) history cs ws ls es need → NeedsCount need → 1 + sends_in conf (followed_by history es) ≤ sends_in conf history + left
+  turns_ahead none some = omega (arith, some)
+  turns_ahead (reads s) some = word_ahead s some
+
+  word_ahead : {conf : Conf} {left : ℕ} {now : ℤ} {history : History} {cs : List ClockCall} {ws : List ℕ} {ls : List LinkCall} {es : List Event} {need : Need}
+      → Weaves conf (WordFor left now) history cs ws ls es need → NeedsCount need → 1 + sends_in conf (followed_by history es) ≤ sends_in conf history + suc left
+  word_ahead none some = absurd some
+  word_ahead (draws s) some = tick_ahead s some
+
+  tick_ahead : {conf : Conf} {outcome : Outcome} {left : ℕ} {now : ℤ} {word : ℕ} {history : History} {cs : List ClockCall} {ws : List ℕ} {ls : List LinkCall} {es : List Event} {need : Need}
+      → Weaves conf (Act outcome (ReceiptNow left)) (Tick now word ∷ history) cs ws ls es need → NeedsCount need
+      → 1 + sends_in conf (followed_by (Tick now word ∷ history) es) ≤ sends_in conf history + suc left
+  tick_ahead none some = absurd some
+  tick_ahead (acts tried are none) some = absurd some
+  tick_ahead {conf = conf} {now = now} {word = word} {history = history} (acts tried are (gets s)) some =
+      omega (arith, reading_ahead s some, tick_sends conf history now word)
+  tick_ahead {conf = conf} {now = now} {word = word} {history = history} (acts tried are (quiet s)) some =
+      omega (arith, turns_ahead s some, tick_sends conf history now word)
+  tick_ahead {conf = conf} {now = now} {word = word} {history = history} (acts tried are (lost s)) some =
+      omega (arith, turns_ahead s some, tick_sends conf history now word)
+
+  reading_ahead : {conf : Conf} {left : ℕ} {from : Addr} {bytes : List ℕ} {history : History} {cs : List ClockCall} {ws : List ℕ} {ls : List LinkCall} {es : List Event} {need : Need}
+      → Weaves conf (ReadingFor left from bytes) history cs ws ls es need → NeedsCount need → 1 + sends_in conf (followed_by history es) ≤ sends_in conf history + left
+  reading_ahead none some = absurd some
+  reading_ahead (arrives none) some = absurd some
+  reading_ahead {conf = conf} {from = from} {bytes = bytes} {history = history} (arrives {now = now} (acts tried are s)) some =
+      omega (arith, turns_ahead s some, arrive_sends conf history now from bytes)
 
 life_sends : (conf : Conf) (now : ℤ) (mark : ℕ) → sends_in conf (Life now mark ∷ []) ≡ 0
 unfolding told
 life_sends conf now mark = refl
 
-pub run_ahead : {conf : Conf} {stood : Stood} {turns : ℕ} {rs : List ℤ} {ws : List ℕ} {qs : List Receipt} {es : List Event} {need : Need}
-    → Weaves conf (Start stood (Turns turns)) [] rs ws qs es need → NeedsCount need → 1 + sends_in conf (followed_by [] es) ≤ turns
+pub run_ahead : {conf : Conf} {stood : Stood} {turns : ℕ} {cs : List ClockCall} {ws : List ℕ} {ls : List LinkCall} {es : List Event} {need : Need}
+    → Weaves conf (Start stood (Turns turns)) [] cs ws ls es need → NeedsCount need → 1 + sends_in conf (followed_by [] es) ≤ turns
 run_ahead none some = absurd some
-run_ahead {conf = conf} {stood = stood} (life {now = now} s) some = omega (arith, turns_ahead s some, life_sends conf now stood.mark)
+run_ahead (life none) some = absurd some
+run_ahead {conf = conf} {stood = stood} (life {now = now} (acts tried are s)) some = omega (arith, turns_ahead s some, life_sends conf now stood.mark)

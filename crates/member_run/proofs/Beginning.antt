@@ -1,8 +1,8 @@
 -- What taking a Life leads to.
-use Rattle.std.proofs.Common.{◌≡◌, ◌<◌, ℕ, List, ◌∷◌, length, Option, Some, IsTrue, OnErr, OnOk, Result, Ok, Err, refl, sym, ◌∙◌, ap, subst}
+use Rattle.std.proofs.Common.{◌≡◌, ◌<◌, ℕ, List, [], ◌∷◌, length, Option, Some, IsTrue, OnErr, OnOk, Result, Ok, Err, refl, sym, ◌∙◌, ap, subst}
 use Rattle.std.proofs.lemmas.Bool.{false≢true}
-use Rattle.edge_traits.specs.Clock.{ClockTold}
-use Rattle.edge_traits.specs.Link.{LinkTold}
+use Rattle.edge_traits.specs.Clock.{ClockCall}
+use Rattle.edge_traits.specs.Link.{LinkCall}
 use Rattle.capture_fmt.specs.declared.event.Event.{Event}
 use Rattle.capture_fmt.specs.declared.event.Event.TheVariants.{Life, Tick, Resync, Arrive}
 use Rattle.capture_fmt.specs.Event.{EventFits}
@@ -22,7 +22,7 @@ use Rattle.run_deeds.specs.Counting.{counted}
 use Rattle.run_deeds.specs.Parts.{why_of}
 use Rattle.run_deeds.specs.Devices.{faults, seen}
 use Rattle.member_run.specs.Asking.{WrittenBy}
-use Rattle.member_run.specs.Taking.{Acts, Takes, last_after, nothing}
+use Rattle.member_run.specs.Taking.{Acts, Takes, last_after}
 use Rattle.member_run.proofs.Sends.{acts_not}
 use Rattle.member_run.proofs.Takings.{takes_all}
 
@@ -44,12 +44,12 @@ life_last conf history event outcome last last' is leads after =
 
 -- nothing is sent or moved in taking it
 pub takes_life : (conf : Conf) (history : History) (event : Event) (outcome : Outcome) (member : Member)
-    (link : Option LinkTold) (clock : Option ClockTold) (words capture capture' out out' : Option (List ℕ))
+    (link : Option (List LinkCall)) (clock : Option (List ClockCall)) (words capture capture' out out' : Option (List ℕ))
     (lf cf ef df kf kf' of of' : ℕ) (end new : LifeEnd) (why : Why)
     → IsTrue (is_life event) → conf_of member ≡ conf → StandsForHistory member (event ∷ history) → EventFits event → outcome ≡ outcome_at conf history event
     → WrittenBy Done (event_bytes event) capture capture' kf kf' → new ≡ counted event outcome end → WrittenBy why (line_of outcome) out out' of of'
     → (why ≡ SinkFault → 0 < length (line_of outcome))
-    → Takes conf history event nothing (seen link clock words capture out lf (faults cf ef df kf of)) (seen link clock words capture' out' lf (faults cf ef df kf' of')) member end new why
+    → Takes conf history event [] (seen link clock words capture out lf (faults cf ef df kf of)) (seen link clock words capture' out' lf (faults cf ef df kf' of')) member end new why
 takes_life conf history event outcome member link clock words capture capture' out out' lf cf ef df kf kf' of of' end new why is is_set stands fits leads written was line some =
     let starts = life_starts conf history event is in
     let acts : Acts outcome link link clock clock lf lf new new =

@@ -4,7 +4,8 @@ use Rattle.std.specs.Prelude.{bit_and}
 use Rattle.std.specs.List.{count_by, sum_by}
 use Rattle.std.proofs.lemmas.List.Sums.{sum_by-append}
 use Rattle.std.proofs.lemmas.Bool.Decides.{nat_tests}
-use Rattle.edge_traits.specs.declared.link.Receipt.{Receipt}
+use Rattle.edge_traits.specs.Clock.{ClockCall}
+use Rattle.edge_traits.specs.Link.{LinkCall}
 use Rattle.capture_fmt.specs.declared.event.Event.{Event}
 use Rattle.capture_fmt.specs.declared.event.Event.TheVariants.{Life, Tick, Resync, Arrive}
 use Rattle.stamp_keep.specs.Keep.{kept_mark}
@@ -17,9 +18,9 @@ use Rattle.sntp_core.specs.Standing.{StandsForHistory, conf_of}
 use Rattle.run_deeds.specs.declared.life_end.LifeEnd.{LifeEnd}
 use Rattle.run_deeds.specs.declared.life_end.Why.{Why}
 use Rattle.run_deeds.specs.declared.life_end.Why.TheVariants.{Done, DiskFault, BadVersion, StampsSpent, ClockFault, EntropyFault, SinkFault}
-use Rattle.run_deeds.specs.Weaving.{Need, Start, Turns, WordFor, ReceiptNow, ReadingFor, Call, CallReading, CallWord, Round, RoundReading, Weaves, none, call_reads, call_draws, behind_request}
+use Rattle.run_deeds.specs.Weaving.{Need, Start, Turns, WordFor, ReceiptNow, ReadingFor, Call, CallReading, CallWord, Round, RoundReading, Act, Weaves, none, acts, call_reads, call_draws, behind_request}
 use Rattle.run_deeds.specs.Deeds.{Deed, Take, Ending, along, all_done, history_after}
-use Rattle.run_deeds.specs.Devices.{Faults, IsBehind, IsBetween, IsInCalls, LifeEndsBy, NeedsReceipt, Seen}
+use Rattle.run_deeds.specs.Devices.{Faults, IsBehind, IsBetween, IsInCalls, IsToDo, LifeEndsBy, NeedsCount, NeedsDisk, NeedsMark, NeedsReading, NeedsReceipt, NeedsWord, Seen}
 use Rattle.run_deeds.specs.Parts.{Part, Runs}
 use Rattle.run_deeds.specs.Rounds.{Answers, RoundAnswers, is_moved, is_too_big, outcomes_in, result_of, round_result}
 use Rattle.member_run.specs.declared.running.Running.{Running}
@@ -42,12 +43,22 @@ waiting wait (CallReading other flags) = CallReading wait flags
 waiting wait (CallWord other flags now) = CallWord wait flags now
 waiting wait (Round left) = Round left
 waiting wait (RoundReading left from bytes) = RoundReading left from bytes
+waiting wait (Act outcome behind) = Act outcome (waiting wait behind)
 
-wait_weaves : {conf : Conf} {wait flags : ℕ} {history : History} {rs : List ℤ} {ws : List ℕ} {qs : List Receipt} {es : List Event} {need : Need}
-    → Weaves conf (CallReading 0 flags) history rs ws qs es need → Weaves conf (CallReading wait flags) history rs ws qs es (waiting wait need)
+wait_act : {conf : Conf} {outcome : Outcome} (wait : ℕ) {history : History} {cs : List ClockCall} {ws : List ℕ} {ls : List LinkCall} {es : List Event} {need : Need}
+    → Weaves conf (Act outcome Call) history cs ws ls es need → Weaves conf (Act outcome (behind_request wait)) history cs ws ls es (waiting wait need)
+wait_act wait none = none
+wait_act wait (acts tried are none) = acts tried are none
+
+wait_word : {conf : Conf} (wait : ℕ) {flags : ℕ} {now : ℤ} {history : History} {cs : List ClockCall} {ws : List ℕ} {ls : List LinkCall} {es : List Event} {need : Need}
+    → Weaves conf (CallWord 0 flags now) history cs ws ls es need → Weaves conf (CallWord wait flags now) history cs ws ls es (waiting wait need)
+wait_word wait none = none
+wait_word wait (call_draws s) = call_draws (wait_act wait s)
+
+wait_weaves : {conf : Conf} {wait flags : ℕ} {history : History} {cs : List ClockCall} {ws : List ℕ} {ls : List LinkCall} {es : List Event} {need : Need}
+    → Weaves conf (CallReading 0 flags) history cs ws ls es need → Weaves conf (CallReading wait flags) history cs ws ls es (waiting wait need)
 wait_weaves none = none
-wait_weaves (call_reads none) = call_reads none
-wait_weaves (call_reads (call_draws none)) = call_reads (call_draws none)
+wait_weaves {wait = wait} (call_reads s) = call_reads (wait_word wait s)
 
 -- a call's first event is its Resync
 record BeginsCall (flags : ℕ) (es : List Event) : Type 0 where
@@ -55,11 +66,21 @@ record BeginsCall (flags : ℕ) (es : List Event) : Type 0 where
   word : ℕ
   is : es ≡ Resync now word flags ∷ []
 
-begins_call : {conf : Conf} {flags : ℕ} {history : History} {rs : List ℤ} {ws : List ℕ} {qs : List Receipt} {es : List Event} {need : Need}
-    → Weaves conf (CallReading 0 flags) history rs ws qs es need → need ≡ Call → BeginsCall flags es
-begins_call none is = absurd (let bad : ⊥ = cc in bad)
-begins_call (call_reads none) is = absurd (let bad : ⊥ = cc in bad)
-begins_call (call_reads {now = now} (call_draws {word = word} none)) is = record { now = now; word = word; is = refl }
+begins_act : {conf : Conf} {outcome : Outcome} {history : History} {cs : List ClockCall} {ws : List ℕ} {ls : List LinkCall} {es : List Event} {need : Need}
+    → Weaves conf (Act outcome Call) history cs ws ls es need → es ≡ []
+begins_act none = refl
+begins_act (acts tried are none) = refl
+
+begins_word : {conf : Conf} {flags : ℕ} {now : ℤ} {history : History} {cs : List ClockCall} {ws : List ℕ} {ls : List LinkCall} {es : List Event} {need : Need}
+    → Weaves conf (CallWord 0 flags now) history cs ws ls es need → need ≡ Call → BeginsCall flags es
+begins_word none is = absurd (let bad : ⊥ = cc is in bad)
+begins_word {flags = flags} {now = now} (call_draws {word = word} s) is =
+    record { now = now; word = word; is = ap (λ (l : List Event). Resync now word flags ∷ l) (begins_act s) }
+
+begins_call : {conf : Conf} {flags : ℕ} {history : History} {cs : List ClockCall} {ws : List ℕ} {ls : List LinkCall} {es : List Event} {need : Need}
+    → Weaves conf (CallReading 0 flags) history cs ws ls es need → need ≡ Call → BeginsCall flags es
+begins_call none is = absurd (let bad : ⊥ = cc is in bad)
+begins_call (call_reads s) is = begins_word s is
 
 calls_on : (b : Bool) → IsInCalls (if b then Call else Round 16)
 calls_on true = tt
@@ -80,6 +101,7 @@ wait_receipt wait (CallReading other flags) needs = absurd needs
 wait_receipt wait (CallWord other flags now) needs = absurd needs
 wait_receipt wait (Round k) needs = absurd needs
 wait_receipt wait (RoundReading k from bytes) needs = absurd needs
+wait_receipt wait (Act outcome behind) needs = absurd needs
 
 wait_calls : (wait : ℕ) (need : Need) → IsInCalls need → IsInCalls (waiting wait need)
 wait_calls wait (Start stood next) needs = absurd needs
@@ -92,6 +114,7 @@ wait_calls wait (CallReading other flags) needs = absurd needs
 wait_calls wait (CallWord other flags now) needs = absurd needs
 wait_calls wait (Round k) needs = tt
 wait_calls wait (RoundReading k from bytes) needs = absurd needs
+wait_calls wait (Act outcome behind) needs = absurd needs
 
 wait_between : (wait : ℕ) (need : Need) → IsBetween need → IsBetween (waiting wait need)
 wait_between wait (Start stood next) needs = absurd needs
@@ -104,6 +127,7 @@ wait_between wait (CallReading other flags) needs = absurd needs
 wait_between wait (CallWord other flags now) needs = absurd needs
 wait_between wait (Round k) needs = tt
 wait_between wait (RoundReading k from bytes) needs = absurd needs
+wait_between wait (Act outcome behind) needs = absurd needs
 
 wait_behind : (wait : ℕ) (need : Need) (event : Event) → IsBehind event need → IsBehind event (waiting wait need)
 wait_behind wait need (Life now mark) behind = tt
@@ -111,32 +135,99 @@ wait_behind wait need (Tick now word) behind = wait_receipt wait need behind
 wait_behind wait need (Resync now word flags) behind = wait_calls wait need behind
 wait_behind wait need (Arrive now from bytes) behind = wait_between wait need behind
 
+wait_does : (wait : ℕ) (need : Need) (event : Event) → IsToDo event need → IsToDo event (waiting wait need)
+wait_does wait (Start stood next) event does = absurd does
+wait_does wait (Turns k) event does = absurd does
+wait_does wait (WordFor k now) event does = absurd does
+wait_does wait (ReceiptNow k) event does = absurd does
+wait_does wait (ReadingFor k from bytes) event does = absurd does
+wait_does wait Call event does = absurd does
+wait_does wait (CallReading other flags) event does = absurd does
+wait_does wait (CallWord other flags now) event does = absurd does
+wait_does wait (Round k) event does = absurd does
+wait_does wait (RoundReading k from bytes) event does = absurd does
+wait_does wait (Act outcome behind) event does = wait_behind wait behind event does
+
 -- the need before the word or the Resync, as an end of the part names it
-wait_ends : {conf : Conf} {flags : ℕ} {history : History} {rs : List ℤ} {ws : List ℕ} {qs : List Receipt} {es : List Event} {need : Need} (wait : ℕ) (why : Why) (deeds : List Deed) (ending : Ending) (taken : List Event) (a b : Faults)
-    → all_done deeds ending ≡ map Take taken → Weaves conf (CallReading 0 flags) history rs ws qs es need → LifeEndsBy why ending need a b → LifeEndsBy why ending (waiting wait need) a b
-wait_ends wait Done deeds ending taken a b takes weaves ends = ends
-wait_ends {need = need} wait SinkFault deeds ending taken a b takes weaves ends = (stops_as (waiting wait) deeds ending taken need takes (wait_behind wait need) ends.0, ends.1)
-wait_ends wait DiskFault deeds ending taken a b takes none ends = ends
-wait_ends wait DiskFault deeds ending taken a b takes (call_reads none) ends = absurd ends.1
-wait_ends wait DiskFault deeds ending taken a b takes (call_reads (call_draws none)) ends = absurd ends.1
-wait_ends wait BadVersion deeds ending taken a b takes none ends = absurd ends.1
-wait_ends wait BadVersion deeds ending taken a b takes (call_reads none) ends = absurd ends.1
-wait_ends wait BadVersion deeds ending taken a b takes (call_reads (call_draws none)) ends = absurd ends.1
-wait_ends wait StampsSpent deeds ending taken a b takes none ends = ends
-wait_ends wait StampsSpent deeds ending taken a b takes (call_reads none) ends = absurd ends.1
-wait_ends wait StampsSpent deeds ending taken a b takes (call_reads (call_draws none)) ends = absurd ends.1
-wait_ends wait ClockFault deeds ending taken a b takes none ends = ends
-wait_ends wait ClockFault deeds ending taken a b takes (call_reads none) ends = absurd ends.1
-wait_ends wait ClockFault deeds ending taken a b takes (call_reads (call_draws none)) ends = absurd ends.1
-wait_ends wait EntropyFault deeds ending taken a b takes none ends = absurd ends.1
-wait_ends wait EntropyFault deeds ending taken a b takes (call_reads none) ends = ends
-wait_ends wait EntropyFault deeds ending taken a b takes (call_reads (call_draws none)) ends = absurd ends.1
+wait_disk : (wait : ℕ) (need : Need) → NeedsDisk need → NeedsDisk (waiting wait need)
+wait_disk wait (Start stood next) needs = tt
+wait_disk wait (Turns k) needs = needs
+wait_disk wait (WordFor k now) needs = absurd needs
+wait_disk wait (ReceiptNow k) needs = absurd needs
+wait_disk wait (ReadingFor k from bytes) needs = absurd needs
+wait_disk wait Call needs = absurd needs
+wait_disk wait (CallReading other flags) needs = tt
+wait_disk wait (CallWord other flags now) needs = absurd needs
+wait_disk wait (Round k) needs = absurd needs
+wait_disk wait (RoundReading k from bytes) needs = absurd needs
+wait_disk wait (Act outcome behind) needs = absurd needs
+
+wait_mark : (wait : ℕ) (need : Need) → NeedsMark need → NeedsMark (waiting wait need)
+wait_mark wait (Start stood next) needs = tt
+wait_mark wait (Turns k) needs = absurd needs
+wait_mark wait (WordFor k now) needs = absurd needs
+wait_mark wait (ReceiptNow k) needs = absurd needs
+wait_mark wait (ReadingFor k from bytes) needs = absurd needs
+wait_mark wait Call needs = absurd needs
+wait_mark wait (CallReading other flags) needs = absurd needs
+wait_mark wait (CallWord other flags now) needs = absurd needs
+wait_mark wait (Round k) needs = absurd needs
+wait_mark wait (RoundReading k from bytes) needs = absurd needs
+wait_mark wait (Act outcome behind) needs = absurd needs
+
+wait_count : (wait : ℕ) (need : Need) → NeedsCount need → NeedsCount (waiting wait need)
+wait_count wait (Start stood next) needs = absurd needs
+wait_count wait (Turns k) needs = needs
+wait_count wait (WordFor k now) needs = absurd needs
+wait_count wait (ReceiptNow k) needs = absurd needs
+wait_count wait (ReadingFor k from bytes) needs = absurd needs
+wait_count wait Call needs = absurd needs
+wait_count wait (CallReading other flags) needs = tt
+wait_count wait (CallWord other flags now) needs = absurd needs
+wait_count wait (Round k) needs = absurd needs
+wait_count wait (RoundReading k from bytes) needs = absurd needs
+wait_count wait (Act outcome behind) needs = absurd needs
+
+wait_reading : (wait : ℕ) (need : Need) → NeedsReading need → NeedsReading (waiting wait need)
+wait_reading wait (Start stood next) needs = tt
+wait_reading wait (Turns k) needs = needs
+wait_reading wait (WordFor k now) needs = absurd needs
+wait_reading wait (ReceiptNow k) needs = absurd needs
+wait_reading wait (ReadingFor k from bytes) needs = tt
+wait_reading wait Call needs = absurd needs
+wait_reading wait (CallReading other flags) needs = tt
+wait_reading wait (CallWord other flags now) needs = absurd needs
+wait_reading wait (Round k) needs = absurd needs
+wait_reading wait (RoundReading k from bytes) needs = tt
+wait_reading wait (Act outcome behind) needs = absurd needs
+
+wait_draw : (wait : ℕ) (need : Need) → NeedsWord need → NeedsWord (waiting wait need)
+wait_draw wait (Start stood next) needs = absurd needs
+wait_draw wait (Turns k) needs = absurd needs
+wait_draw wait (WordFor k now) needs = tt
+wait_draw wait (ReceiptNow k) needs = absurd needs
+wait_draw wait (ReadingFor k from bytes) needs = absurd needs
+wait_draw wait Call needs = absurd needs
+wait_draw wait (CallReading other flags) needs = absurd needs
+wait_draw wait (CallWord other flags now) needs = tt
+wait_draw wait (Round k) needs = absurd needs
+wait_draw wait (RoundReading k from bytes) needs = absurd needs
+wait_draw wait (Act outcome behind) needs = absurd needs
+
+wait_ends : (wait : ℕ) (why : Why) (deeds : List Deed) (ending : Ending) (taken : List Event) (need : Need) (a b : Faults)
+    → all_done deeds ending ≡ map Take taken → LifeEndsBy why ending need a b → LifeEndsBy why ending (waiting wait need) a b
+wait_ends wait Done deeds ending taken need a b takes ends = ends
+wait_ends wait SinkFault deeds ending taken need a b takes ends = (stops_as (waiting wait) deeds ending taken need takes (wait_behind wait need) (wait_does wait need) ends.0, ends.1)
+wait_ends wait DiskFault deeds ending taken need a b takes ends = (ends.0, wait_disk wait need ends.1, ends.2)
+wait_ends wait BadVersion deeds ending taken need a b takes ends = (ends.0, wait_mark wait need ends.1, ends.2)
+wait_ends wait StampsSpent deeds ending taken need a b takes ends = (ends.0, wait_count wait need ends.1, ends.2)
+wait_ends wait ClockFault deeds ending taken need a b takes ends = (ends.0, wait_reading wait need ends.1, ends.2)
+wait_ends wait EntropyFault deeds ending taken need a b takes ends = (ends.0, wait_draw wait need ends.1, ends.2)
 
 wait_runs : (conf : Conf) (wait flags : ℕ) (history : History) (a b : Seen) (kept kept' : ℕ) (old new : LifeEnd) (why : Why)
     → Runs conf (CallReading 0 flags) Call history a b kept kept' old new why → Runs conf (CallReading wait flags) (behind_request wait) history a b kept kept' old new why
 wait_runs conf wait flags history a b kept kept' old new why r = record {
   given = r.given;
-  tried = r.tried;
   deeds = r.deeds;
   ending = r.ending;
   need = waiting wait r.need;
@@ -146,7 +237,7 @@ wait_runs conf wait flags history a b kept kept' old new why r = record {
   takes = r.takes;
   grows = r.grows;
   tallies = r.tallies;
-  ends = wait_ends wait why r.deeds r.ending r.taken a.faults b.faults r.takes r.weaves r.ends;
+  ends = wait_ends wait why r.deeds r.ending r.taken r.need a.faults b.faults r.takes r.ends;
   well = λ is. ap (waiting wait) (r.well is);
   reserved = r.reserved;
 }

@@ -28,19 +28,19 @@ none_missing (NoLine deed front) whole = refl
 pub had_few : (conf : Conf) (turns : ℕ) (entry exit : DiskTold) (before now : Seen) (end : LifeEnd) (content : List ℕ) → Lives conf turns entry exit before now end
     → end.why ≡ StampsSpent → entry.content ≡ Some content → mark_of_image content + turns ≤ 4294967232 → ⊥
 had_few conf turns entry exit before now end content l spent disk fits =
-    let ends = subst (λ (w : Why). LifeEndsBy w l.ending l.need before.faults now.faults) spent l.ends in
-    let given : l.events ++ missing_in l.ending ≡ l.events = ap (λ (es : List Event). l.events ++ es) (none_missing l.ending ends.0) ∙ append-nil l.events in
+    let ends = subst (λ (w : Why). LifeEndsBy w l.woven.ending l.woven.need before.faults now.faults) spent l.ended.ends in
+    let given : l.woven.events ++ missing_in l.woven.ending ≡ l.woven.events = ap (λ (es : List Event). l.woven.events ++ es) (none_missing l.woven.ending ends.0) ∙ append-nil l.woven.events in
     let P : List Event → Type 0 = λ (es : List Event). 1 + sends_in conf es ≤ turns in
-    let ahead : P (reverse l.events) = subst P (followed_none (l.events ++ missing_in l.ending) ∙ ap reverse given) (run_ahead l.weaves ends.1) in
+    let ahead : P (reverse l.woven.events) = subst P (followed_none (l.woven.events ++ missing_in l.woven.ending) ∙ ap reverse given) (run_ahead l.woven.weaves ends.1) in
     let mark : l.stood.mark ≡ mark_of_image content = subst (λ (o : Option (List ℕ)). IfSome o (λ c. l.stood.mark ≡ mark_of_image c)) disk l.stood_for in
-    let kept = subst (λ (w : Why). KeptBy w l.stood l.events (told conf (reverse l.events)) entry exit) spent l.kept in
+    let kept = subst (λ (w : Why). KeptBy w l.stood l.woven.events (told conf (reverse l.woven.events)) entry exit) spent l.kept.kept in
     omega (arith, mark, fits, ahead, kept.2)
 
 -- a run that found another version found no disk that can be loaded
 had_version : (conf : Conf) (turns : ℕ) (entry exit : DiskTold) (before now : Seen) (end : LifeEnd) (content : List ℕ) → Lives conf turns entry exit before now end
     → end.why ≡ BadVersion → entry.content ≡ Some content → IsLoadable content → ⊥
 had_version conf turns entry exit before now end content l version disk loadable =
-    let kept = subst (λ (w : Why). KeptBy w l.stood l.events (told conf (reverse l.events)) entry exit) version l.kept in
+    let kept = subst (λ (w : Why). KeptBy w l.stood l.woven.events (told conf (reverse l.woven.events)) entry exit) version l.kept.kept in
     loadable (subst (λ (o : Option (List ℕ)). IfSome o HasOtherVersion) disk kept.1)
 
 else_done : {A B C : Type 0} → (B → ⊥) → (C → ⊥) → A ⊎ B ⊎ C → A
@@ -54,4 +54,4 @@ pub done_within : (conf : Conf) (turns : ℕ) (entry exit : DiskTold) (before no
 done_within conf turns entry exit before now end l content disk loadable fits none =
     else_done (λ version. had_version conf turns entry exit before now end content l version disk loadable)
     (λ spent. had_few conf turns entry exit before now end content l spent disk fits)
-    (none_blamed end.why l.ending l.need before.faults now.faults l.ends none)
+    (none_blamed end.why l.woven.ending l.woven.need before.faults now.faults l.ended.ends none)

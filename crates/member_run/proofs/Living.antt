@@ -1,25 +1,27 @@
 -- A whole run, from its parts.
 use Rattle.std.proofs.Common.{◌≡◌, ◌≢◌, ◌⊎◌, inl, inr, ◌<◌, ◌≤◌, ◌+◌, ◌-◌, ◌*◌, ◌/◌, ◌^◌, ℕ, zero, suc, ℤ, Bool, true, false, min, List, [], ◌∷◌, ◌++◌, length, map, flat_map, reverse, take, Option, Some, None, IfSome, IsSome, unwrap_or, refl, sym, ◌∙◌, ap, subst, arith, append_assoc, if◌then◌else◌}
 use Rattle.std.specs.List.{AllByRecursion}
-use Rattle.std.specs.Prelude.{IsSomeAnd}
+use Rattle.std.specs.Prelude.{IsSomeAnd, ⊤}
 use Rattle.std.proofs.lemmas.List.{append-nil, length-map}
-use Rattle.std.proofs.lemmas.Grind.{reverse_onto}
+use Rattle.std.proofs.lemmas.Grind.{flat_map-append, reverse_onto}
 use Rattle.std.proofs.lemmas.Bool.Decides.{nat_tests}
 use Rattle.base_specs.specs.Counts.{Fails, FailsTimes}
-use Rattle.base_specs.specs.Told.{Added}
+use Rattle.base_specs.specs.Told.{Added, Grew}
 use Rattle.base_specs.proofs.Telling.{added_more}
 use Rattle.line_text.specs.Text.{joined}
 use Rattle.edge_traits.specs.declared.link.Receipt.{Receipt}
 use Rattle.edge_traits.specs.declared.link.Tried.{Tried}
-use Rattle.edge_traits.specs.Clock.{ClockTold}
-use Rattle.edge_traits.specs.Link.{Exchanged, LinkTold, failed_receipts, failed_sends}
+use Rattle.edge_traits.specs.Clock.{ClockCall, moves_among, readings_among}
+use Rattle.edge_traits.specs.Link.{LinkCall, failed_calls, receipts_among, sends_among}
 use Rattle.capture_fmt.specs.declared.event.Event.{Event}
 use Rattle.capture_fmt.specs.declared.event.Event.TheVariants.{Life, Tick, Resync, Arrive}
 use Rattle.capture_fmt.specs.Event.{EventFits}
 use Rattle.capture_fmt.specs.Record.{event_bytes}
-use Rattle.slot_disk.specs.Told.{DiskTold}
+use Rattle.slot_disk.specs.Calls.{LeavesOnly}
+use Rattle.slot_disk.specs.Told.{DiskTold, IsDisk}
 use Rattle.stamp_keep.specs.Image.{mark_of_image}
-use Rattle.stamp_keep.specs.Keep.{IsLeft, IsLoadable, KeepsMarks, StandsAsBefore}
+use Rattle.stamp_keep.specs.Keep.{IsLeft, IsLoadable, KeepsMarks, KeepsUnused, StandsAsBefore}
+use Rattle.stamp_keep.proofs.Moments.{and_then, weaker}
 use Rattle.stamp_keep.specs.Slots.{HasOtherVersion}
 use Rattle.time_machine.specs.declared.conf.Conf.{Conf}
 use Rattle.time_machine.specs.declared.outcome.Outcome.{Outcome}
@@ -41,23 +43,25 @@ use Rattle.run_deeds.specs.declared.life_end.Why.{Why}
 use Rattle.run_deeds.specs.declared.life_end.Why.TheVariants.{Done, DiskFault, BadVersion, StampsSpent, ClockFault, EntropyFault, SinkFault}
 use Rattle.run_deeds.specs.Closing.{closing_by, closing_lines}
 use Rattle.run_deeds.specs.Counting.{ended, more, with_why}
-use Rattle.run_deeds.specs.Weaving.{Need, Start, Turns, WordFor, ReceiptNow, ReadingFor, Call, CallReading, CallWord, Round, RoundReading, Stood, Weaves, none, life, reads, draws, followed_by, turns_of, weave}
-use Rattle.run_deeds.specs.Deeds.{Deed, Take, Print, Ending, Whole, NoRecord, NoLine, HasLine, IsWhole, all_done, along, cut_record, events_given, history_after, line_in, missing_in, posted_in, moves_in, printed, reasons_in, ticks_in}
-use Rattle.run_deeds.specs.Devices.{Faults, Given, IsBeforeTick, LifeEndsBy, NeedsDisk, NeedsMark, NeedsReading, Seen, SinkFailed, StopsAt, Timed, faults, posted_of, seen}
-use Rattle.run_deeds.specs.Marks.{AddsNoMark, Covers, KeepsLoadable, MarksBeforeSends, Reserved, blocks_of}
+use Rattle.run_deeds.specs.Weaving.{Need, Start, Turns, WordFor, ReceiptNow, ReadingFor, Call, CallReading, CallWord, Round, RoundReading, Act, Stood, Weaves, none, acts, life, reads, draws, followed_by, posted_of, turns_of, weave}
+use Rattle.run_deeds.specs.Deeds.{Deed, Take, Print, Ending, Whole, NoRecord, NoLine, HasLine, IsWhole, all_done, along, cut_record, events_given, events_in, history_after, line_in, missing_in, posted_in, moves_in, printed, reasons_in, ticks_in}
+use Rattle.run_deeds.specs.Devices.{Faults, Given, IsBeforeTick, IsBehind, IsBetween, IsInCalls, IsToDo, LifeEndsBy, NeedsCount, NeedsDisk, NeedsMark, NeedsReading, NeedsReceipt, NeedsWord, Seen, SinkFailed, StopsAt, faults, seen}
+use Rattle.run_deeds.specs.Marks.{Covers, KeepsLoadable, MarksBeforeSends, Reserved, blocks_of}
 use Rattle.run_deeds.specs.Parts.{Part, Runs, Tallies}
-use Rattle.run_deeds.specs.Lives.{CallsForBlocks, KeptBy, Lives, Reports, Totals}
+use Rattle.run_deeds.specs.Lives.{CallsForBlocks, KeptBy, Lives, Reports, Totals, behind_act}
 use Rattle.run_deeds.proofs.Weaves.{is_weave}
+use Rattle.run_deeds.proofs.Orders.{InOrder, IsMissing, order_but, order_life}
 use Rattle.run_deeds.proofs.Composing.{runs_then}
 use Rattle.member_run.specs.declared.running.Running.{Running}
 use Rattle.member_run.specs.Running.{IsGoing, greatest_of, kept_of, member_of, totals_of}
 use Rattle.member_run.specs.Closing.{Closes}
 use Rattle.member_run.specs.Reserving.{IsLoadedFrom}
 use Rattle.member_run.specs.Starting.{HasBegun, HasStopped, IsOfStart}
-use Rattle.member_run.specs.Turning.{CallsFor, DueBy, TakesTurns}
+use Rattle.member_run.specs.Turning.{CallsFor, DueBy, TakesTurns, filled}
 use Rattle.member_run.proofs.Ordered.{captured_is, ends_taken, followed_none, given_are, history_of, lines_are, moves_are, reasons_are, requests_are, reverse_last, ticks_are}
 use Rattle.member_run.proofs.Blocks.{NoLife, mark_in, mark_stays, sends_in, turns_later}
-use Rattle.member_run.proofs.Parting.{stops_behind}
+use Rattle.member_run.proofs.Leaving.{left_now, unused_then}
+use Rattle.member_run.proofs.Parting.{last_one, no_print}
 use Rattle.member_run.proofs.Turning.{later_taken, loads_then, marks_then, taken_history, whole_given}
 
 -- ---- The history of a run begins with its Life
@@ -144,9 +148,9 @@ more_none (suc n) = grind (arith, nat_tests)
 up_to_last : (n m k : ℕ) → n ≡ more 0 m → m ≡ k → n ≡ min k (2 ^ 32 - 1)
 up_to_last n m k is same = is ∙ more_none m ∙ ap (λ (x : ℕ). min x (2 ^ 32 - 1)) same
 
-totals_are : (conf : Conf) (taken : List Event) (receipts : List Receipt) (tried : List Tried) (deeds : List Deed) (new : LifeEnd) → deeds ≡ map Take taken
-    → Tallies conf [] deeds receipts tried (ended Done) new → Totals conf taken receipts tried new
-totals_are conf taken receipts tried deeds new are t = record {
+totals_are : (conf : Conf) (taken : List Event) (calls : List LinkCall) (deeds : List Deed) (new : LifeEnd) → deeds ≡ map Take taken
+    → Tallies conf [] deeds calls (ended Done) new → Totals conf taken calls new
+totals_are conf taken calls deeds new are t = record {
   sent = up_to_last _ _ _ t.sent (ap length (ap (along (posted_in conf) []) are ∙ sym (requests_are conf taken)));
   moved = up_to_last _ _ _ t.moved (ap length (ap (along (moves_in conf) []) are ∙ sym (moves_are conf taken)));
   refused = up_to_last _ _ _ t.refused (ap length (ap (along (reasons_in conf) []) are ∙ sym (reasons_are conf taken)));
@@ -159,41 +163,155 @@ totals_are conf taken receipts tried deeds new are t = record {
 pub run_history : (deeds : List Deed) (ending : Ending) (taken : List Event) → all_done deeds ending ≡ map Take taken → history_after [] (all_done deeds ending) ≡ reverse taken
 run_history deeds ending taken takes = taken_history [] deeds ending taken takes ∙ followed_none taken
 
-pub record Lived (conf : Conf) (turns : ℕ) (stood : Stood) (before now : Seen) (given : Given) (tried : List Tried) (taken : List Event) (ending : Ending) (need : Need) (end : LifeEnd) : Type 0 where
-  pub weaves : Weaves conf (Start stood (Turns turns)) [] given.readings given.words given.receipts (taken ++ missing_in ending) need
+pub record Lived (conf : Conf) (turns : ℕ) (stood : Stood) (before now : Seen) (given : Given) (taken : List Event) (ending : Ending) (need : Need) (end : LifeEnd) : Type 0 where
+  pub weaves : Weaves conf (Start stood (Turns turns)) [] given.clock given.words given.link (taken ++ missing_in ending) need
   pub grows : Grows conf (reverse taken)
-  pub link : Exchanged before.link now.link tried given.receipts
-  pub requests : map posted_of tried ≡ requests_of conf (reverse taken)
-  pub clock : Timed before.clock now.clock given.readings (moves_of conf (reverse taken))
+  pub link : Grew before.link now.link given.link
+  pub requests : map posted_of (sends_among given.link) ≡ requests_of conf (reverse taken)
+  pub clock : Grew before.clock now.clock given.clock
+  pub moves : moves_among given.clock ≡ moves_of conf (reverse taken)
+  pub order : InOrder conf [] given.clock given.link taken
   pub words : Added before.words now.words given.words
   pub fits : AllByRecursion EventFits taken
   pub capture : Added before.capture now.capture (flat_map event_bytes taken ++ cut_record ending)
-  pub totals : Totals conf taken given.receipts tried end
-  pub link_failed : FailsTimes (failed_receipts given.receipts + failed_sends tried) before.link_faults now.link_faults
+  pub totals : Totals conf taken given.link end
+  pub link_failed : FailsTimes (failed_calls given.link) before.link_faults now.link_faults
+
+-- ---- Which event was not taken
+
+-- the line of a Life is not whole
+abbrev IsLifeLine : Ending → Type 0
+IsLifeLine (NoLine (Take (Life now mark)) front) = ⊤
+IsLifeLine _ = ⊥
+
+at_disk : (need : Need) → NeedsDisk need → IsMissing need []
+at_disk (Act outcome behind) needs = absurd needs
+at_disk _ needs = refl
+
+at_mark : (need : Need) → NeedsMark need → IsMissing need []
+at_mark (Act outcome behind) needs = absurd needs
+at_mark _ needs = refl
+
+at_count : (need : Need) → NeedsCount need → IsMissing need []
+at_count (Act outcome behind) needs = absurd needs
+at_count _ needs = refl
+
+at_reading : (need : Need) → NeedsReading need → IsMissing need []
+at_reading (Act outcome behind) needs = absurd needs
+at_reading _ needs = refl
+
+at_word : (need : Need) → NeedsWord need → IsMissing need []
+at_word (Act outcome behind) needs = absurd needs
+at_word _ needs = refl
+
+at_receipt : (need : Need) → NeedsReceipt need → IsMissing need []
+at_receipt (Act outcome behind) needs = absurd needs
+at_receipt _ needs = refl
+
+at_calls : (need : Need) → IsInCalls need → IsMissing need []
+at_calls (Act outcome behind) needs = absurd needs
+at_calls _ needs = refl
+
+at_between : (need : Need) → IsBetween need → IsMissing need []
+at_between (Act outcome behind) needs = absurd needs
+at_between _ needs = refl
+
+at_deed : (event : Event) (need : Need) → IsToDo event need → IsMissing need (event ∷ [])
+at_deed event (Act outcome behind) does = (event, refl)
+at_deed event (Start stood next) does = absurd does
+at_deed event (Turns left) does = absurd does
+at_deed event (WordFor left now) does = absurd does
+at_deed event (ReceiptNow left) does = absurd does
+at_deed event (ReadingFor left from bytes) does = absurd does
+at_deed event Call does = absurd does
+at_deed event (CallReading wait flags) does = absurd does
+at_deed event (CallWord wait flags now) does = absurd does
+at_deed event (Round left) does = absurd does
+at_deed event (RoundReading left from bytes) does = absurd does
+
+missing_whole : (ending : Ending) (need : Need) → IsWhole ending → IsMissing need [] → IsMissing need (missing_in ending)
+missing_whole Whole need whole is = is
+missing_whole (NoRecord event front) need whole is = absurd whole
+missing_whole (NoLine deed front) need whole is = absurd whole
+
+stops_missing : (ending : Ending) (need : Need) → StopsAt ending need → IsMissing need (missing_in ending) ⊎ IsLifeLine ending
+stops_missing Whole need stops = absurd stops
+stops_missing (NoRecord event front) need stops = inl (at_deed event need stops)
+stops_missing (NoLine (Take (Life now mark)) front) need stops = inr tt
+stops_missing (NoLine (Take (Tick now word)) front) need stops = inl (at_receipt need stops)
+stops_missing (NoLine (Take (Resync now word flags)) front) need stops = inl (at_calls need stops)
+stops_missing (NoLine (Take (Arrive now from bytes)) front) need stops = inl (at_between need stops)
+stops_missing (NoLine (Print line) front) need stops = inl (subst (λ (n : Need). IsMissing n []) (sym stops) refl)
+
+-- where a run ended, it is known which event is missing, but where it is of no account
+known_missing : (why : Why) (ending : Ending) (need : Need) (a b : Faults) → LifeEndsBy why ending need a b → (why ≡ Done → need ≡ Turns 0)
+    → IsMissing need (missing_in ending) ⊎ IsLifeLine ending
+known_missing Done ending need a b ends well = inl (missing_whole ending need ends.0 (subst (λ (n : Need). IsMissing n []) (sym (well refl)) refl))
+known_missing DiskFault ending need a b ends well = inl (missing_whole ending need ends.0 (at_disk need ends.1))
+known_missing BadVersion ending need a b ends well = inl (missing_whole ending need ends.0 (at_mark need ends.1))
+known_missing StampsSpent ending need a b ends well = inl (missing_whole ending need ends.0 (at_count need ends.1))
+known_missing ClockFault ending need a b ends well = inl (missing_whole ending need ends.0 (at_reading need ends.1))
+known_missing EntropyFault ending need a b ends well = inl (missing_whole ending need ends.0 (at_word need ends.1))
+known_missing SinkFault ending need a b ends well = stops_missing ending need ends.0
+
+-- a Life that comes last is the only event
+life_alone : (mark : ℕ) (before taken : List Event) (now : ℤ) (m : ℕ) → taken ≡ before ++ Life now m ∷ [] → (taken ≡ []) ⊎ BeginsLife mark taken → (time : ℤ) × (taken ≡ Life time mark ∷ [])
+life_alone mark [] taken now m is (inl nothing) = absurd (let no : [] ≡ Life now m ∷ [] = sym nothing ∙ is in let bad : ⊥ = cc in bad)
+life_alone mark (x ∷ xs) taken now m is (inl nothing) = absurd (let no : [] ≡ x ∷ (xs ++ Life now m ∷ []) = sym nothing ∙ is in let bad : ⊥ = cc in bad)
+life_alone mark [] taken now m is (inr begins) =
+    let same : Life begins.now mark ∷ begins.later ≡ Life now m ∷ [] = sym begins.is ∙ is in
+    let none_later : begins.later ≡ [] = cc in
+    (begins.now, begins.is ∙ ap (λ (l : List Event). Life begins.now mark ∷ l) none_later)
+life_alone mark (x ∷ xs) taken now m is (inr begins) =
+    let same : Life begins.now mark ∷ begins.later ≡ x ∷ (xs ++ Life now m ∷ []) = sym begins.is ∙ is in
+    let later : begins.later ≡ xs ++ Life now m ∷ [] = cc in
+    let only : NoLife (xs ++ Life now m ∷ []) = subst NoLife later begins.only in
+    let last : true ≡ false = (all_split _ xs (Life now m ∷ []) only).1.0 in
+    absurd (let bad : ⊥ = cc in bad)
+
+order_of : (conf : Conf) (turns : ℕ) (stood : Stood) (given : Given) (deeds : List Deed) (taken : List Event) (ending : Ending) (need : Need)
+    → Weaves conf (Start stood (Turns turns)) [] given.clock given.words given.link (taken ++ missing_in ending) need → all_done deeds ending ≡ map Take taken
+    → IsMissing need (missing_in ending) ⊎ IsLifeLine ending → InOrder conf [] given.clock given.link taken
+order_of conf turns stood given deeds taken ending need weaves takes (inl is) = order_but taken (missing_in ending) weaves is
+order_of conf turns stood given deeds taken (NoLine (Take (Life now mark)) front) need weaves takes (inr line) =
+    let last = ends_taken deeds (Take (Life now mark)) taken takes in
+    let one : Take (Life now mark) ≡ Take last.event = last.deed_is in
+    let same : last.event ≡ Life now mark = cc in
+    let is : taken ≡ last.before ++ Life now mark ∷ [] = last.is ∙ ap (λ (e : Event). last.before ++ e ∷ []) same in
+    let only = life_alone stood.mark last.before taken now mark is (weave_shape stood (readings_among given.clock) given.words (receipts_among given.link) taken [] (is_weave weaves)) in
+    subst (λ (es : List Event). InOrder conf [] given.clock given.link es) (sym only.1) (order_life weaves (append-nil taken ∙ only.1))
+order_of conf turns stood given deeds taken (NoLine (Take (Tick now word)) front) need weaves takes (inr line) = absurd line
+order_of conf turns stood given deeds taken (NoLine (Take (Resync now word flags)) front) need weaves takes (inr line) = absurd line
+order_of conf turns stood given deeds taken (NoLine (Take (Arrive now from bytes)) front) need weaves takes (inr line) = absurd line
+order_of conf turns stood given deeds taken (NoLine (Print text) front) need weaves takes (inr line) = absurd line
+order_of conf turns stood given deeds taken (NoRecord event front) need weaves takes (inr line) = absurd line
+order_of conf turns stood given deeds taken Whole need weaves takes (inr line) = absurd line
 
 pub lived_of : (conf : Conf) (turns : ℕ) (stood : Stood) (before now : Seen) (kept kept' : ℕ) (new : LifeEnd) (why : Why)
     (r : Runs conf (Start stood (Turns turns)) (Turns 0) [] before now kept kept' (ended Done) new why)
-    → Lived conf turns stood before now r.given r.tried r.taken r.ending r.need new
+    → Lived conf turns stood before now r.given r.taken r.ending r.need new
 lived_of conf turns stood before now kept kept' new why r =
     let given = given_are r.deeds r.ending r.taken r.takes in
     let fit : AllByRecursion EventFits (r.taken ++ missing_in r.ending) = subst (AllByRecursion EventFits) given r.does.fit in
-    let moves = ap (along (moves_in conf) []) r.takes ∙ sym (moves_are conf r.taken) in
+    let weaves = subst (λ (es : List Event). Weaves conf (Start stood (Turns turns)) [] r.given.clock r.given.words r.given.link es r.need) given r.weaves in
     record {
-      weaves = subst (λ (es : List Event). Weaves conf (Start stood (Turns turns)) [] r.given.readings r.given.words r.given.receipts es r.need) given r.weaves;
+      weaves = weaves;
       grows = subst (λ (h : History). Grows conf h) (run_history r.deeds r.ending r.taken r.takes) r.grows;
       link = r.does.link;
       requests = r.does.requests ∙ ap (along (posted_in conf) []) r.takes ∙ sym (requests_are conf r.taken);
-      clock = subst (λ (ms : List _). Timed before.clock now.clock r.given.readings ms) moves r.does.clock;
+      clock = r.does.clock;
+      moves = r.does.moves ∙ ap (along (moves_in conf) []) r.takes ∙ sym (moves_are conf r.taken);
+      order = order_of conf turns stood r.given r.deeds r.taken r.ending r.need weaves r.takes (known_missing why r.ending r.need before.faults now.faults r.ends r.well);
       words = r.does.words;
       fits = (all_split EventFits r.taken (missing_in r.ending) fit).0;
       capture = subst (λ (bs : List ℕ). Added before.capture now.capture bs) (captured_is r.deeds r.ending r.taken r.takes) r.does.capture;
-      totals = totals_are conf r.taken r.given.receipts r.tried (all_done r.deeds r.ending) new r.takes r.tallies;
+      totals = totals_are conf r.taken r.given.link (all_done r.deeds r.ending) new r.takes r.tallies;
       link_failed = r.does.link_failed;
     }
 
-totals_with : (conf : Conf) (taken : List Event) (receipts : List Receipt) (tried : List Tried) (why : Why) (end : LifeEnd) → Totals conf taken receipts tried end
-    → Totals conf taken receipts tried (with_why why end)
-totals_with conf taken receipts tried why end t =
+totals_with : (conf : Conf) (taken : List Event) (calls : List LinkCall) (why : Why) (end : LifeEnd) → Totals conf taken calls end
+    → Totals conf taken calls (with_why why end)
+totals_with conf taken calls why end t =
     record { sent = t.sent; moved = t.moved; refused = t.refused; quiet = t.quiet; lost = t.lost; turns = t.turns }
 
 -- ---- The report
@@ -232,9 +350,9 @@ reports_of conf end deeds (NoLine (Print line) front) need taken is not has =
 -- ---- The disk
 
 -- the requests of a run that began are those of its life
-tries : (conf : Conf) (mark : ℕ) (taken : List Event) (tried : List Tried) → BeginsLife mark taken → map posted_of tried ≡ requests_of conf (reverse taken)
-    → sends_in conf (reverse taken) ≡ length tried
-tries conf mark taken tried begins requests = life_sends conf mark taken begins ∙ ap length (sym requests) ∙ length-map tried posted_of
+tries : (conf : Conf) (mark : ℕ) (taken : List Event) (calls : List LinkCall) → BeginsLife mark taken → map posted_of (sends_among calls) ≡ requests_of conf (reverse taken)
+    → sends_in conf (reverse taken) ≡ length (sends_among calls)
+tries conf mark taken calls begins requests = life_sends conf mark taken begins ∙ ap length (sym requests) ∙ length-map (sends_among calls) posted_of
 
 kept_by : (conf : Conf) (why : Why) (stood : Stood) (taken : List Event) (entry exit : DiskTold) → BeginsLife stood.mark taken → DueBy why (told conf (reverse taken))
     → KeptBy why stood taken (told conf (reverse taken)) entry exit
@@ -356,7 +474,7 @@ pub record Parted (conf : Conf) (turns : ℕ) (stood : Stood) (new : Running) (e
   pub within : unwrap_or (mark_in conf (reverse runs.taken)) 0 + 64 * blocks_of (life_at (told conf (reverse runs.taken))) < 2 ^ 32
   pub calls : exit.time ≤ entry.time + 5 * (1 + sends_in conf (reverse runs.taken) / 64)
   pub blocks : CallsForBlocks why runs.ending runs.need (life_at (told conf (reverse runs.taken))) entry.time exit.time
-  pub most : (image : List ℕ) → exit.may_leave image → mark_of_image image ≤ unwrap_or (mark_in conf (reverse runs.taken)) 0 + 64 * (1 + sends_in conf (reverse runs.taken) / 64)
+  pub most : LeavesOnly entry exit (λ image. mark_of_image image ≤ filled (told conf (reverse runs.taken)))
   pub reserved : why ≡ Done → Reserved (kept_of new) (told conf (reverse runs.taken))
   pub greatest : greatest_of new ≡ greatest_count (told conf (reverse runs.taken))
   -- the sink that failed is none of the Life
@@ -378,21 +496,21 @@ parted_of conf turns entry mid exit before between now old new why begun going t
     let disk = two.disk reserved in
     let lived = lived_of conf turns stood before now stood.mark (kept_of new) (totals_of new) why all in
     let r = two.part.runs in
-    let later : NoLife r.taken = later_taken conf turns older r.given.readings r.given.words r.given.receipts r.deeds r.ending r.need r.taken r.takes r.weaves in
+    let later : NoLife r.taken = later_taken conf turns older r.given.clock r.given.words r.given.link r.deeds r.ending r.need r.taken r.takes r.weaves in
     let stays : mark_in conf newer ≡ mark_in conf older = ap (mark_in conf) (taken_history older r.deeds r.ending r.taken r.takes) ∙ mark_stays conf older r.taken later in
     let marked : IsSome (mark_in conf older) = has_mark old conf older one.is_set one.stands going.begun.begun in
     let Marked : History → Type 0 = λ (h : History). IsSome (mark_in conf h) in
     let last : IsSome (mark_in conf (reverse all.taken)) = subst Marked same (subst (λ (o : Option ℕ). IsSome o) (sym stays) marked) in
     record {
       runs = all;
-      begins = begins_by (weave_shape stood all.given.readings all.given.words all.given.receipts all.taken (missing_in all.ending) (is_weave lived.weaves)) (λ empty. none_marked conf (subst Marked (ap reverse empty) last));
+      begins = begins_by (weave_shape stood (readings_among all.given.clock) all.given.words (receipts_among all.given.link) all.taken (missing_in all.ending) (is_weave lived.weaves)) (λ empty. none_marked conf (subst Marked (ap reverse empty) last));
       due = subst (λ (h : History). DueBy why (told conf h)) same disk.due;
       within =
           let P : History → Type 0 = λ (h : History). unwrap_or (mark_in conf h) 0 + 64 * blocks_of (life_at (told conf h)) < 2 ^ 32 in
           subst P same disk.within;
-      most = λ image left.
-          let P : History → Type 0 = λ (h : History). mark_of_image image ≤ unwrap_or (mark_in conf h) 0 + 64 * (1 + sends_in conf h / 64) in
-          subst P same (disk.most image left);
+      most =
+          let P : History → Type 0 = λ (h : History). LeavesOnly mid exit (λ image. mark_of_image image ≤ filled (told conf h)) in
+          subst P same disk.most;
       calls =
           let P : History → Type 0 = λ (h : History). exit.time ≤ mid.time + 5 * (1 + sends_in conf h / 64) in
           subst P same (let few : P newer = omega (arith, disk.calls) in few);
@@ -416,75 +534,97 @@ parted_of conf turns entry mid exit before between now old new why begun going t
 
 -- ---- All that is said of a run
 
-pub lives_made : (conf : Conf) (turns : ℕ) (entry exit : DiskTold) (before now : Seen) (stood : Stood) (given : Given) (tried : List Tried) (taken : List Event) (ending : Ending) (need : Need) (end : LifeEnd) (text : List ℕ)
+-- a run's requests, and one block more, above the mark of its Life
+abbrev pub most_at : Stood → Given → ℕ
+most_at stood given = stood.mark + 64 * (1 + length (sends_among given.link) / 64)
+
+pub lives_made : (conf : Conf) (turns : ℕ) (entry exit : DiskTold) (before now : Seen) (stood : Stood) (given : Given) (taken : List Event) (ending : Ending) (need : Need) (end : LifeEnd) (text : List ℕ)
     → IfSome entry.content (λ c. stood.mark ≡ mark_of_image c)
-    → Lived conf turns stood before now given tried taken ending need end
+    → Lived conf turns stood before now given taken ending need end
     → Reports conf (reverse taken) end ending need text → Added before.out now.out text
     → LifeEndsBy end.why ending need before.faults now.faults → (end.why ≡ Done → need ≡ Turns 0)
-    → (end.why ≡ SinkFault → (now : ℤ) → taken ++ missing_in ending ≡ Life now stood.mark ∷ [] → need ≡ Turns turns)
+    → (end.why ≡ SinkFault → (now : ℤ) → taken ++ missing_in ending ≡ Life now stood.mark ∷ [] → behind_act need ≡ Turns turns)
     → KeptBy end.why stood taken (told conf (reverse taken)) entry exit
     → ((taken ≢ []) ⊎ ((end.why ≢ BadVersion) × (end.why ≢ DiskFault)) → IfSome entry.content IsLoadable)
     → KeepsLoadable entry exit
     → MarksBeforeSends entry exit stood.mark (told conf (reverse taken))
     → (taken ≢ [] → stood.mark + 64 * blocks_of (life_at (told conf (reverse taken))) < 2 ^ 32)
-    → exit.time ≤ entry.time + 4 + 5 * (1 + length tried / 64)
+    → exit.time ≤ entry.time + 4 + 5 * (1 + length (sends_among given.link) / 64)
     → CallsForBlocks end.why ending need (life_at (told conf (reverse taken))) (entry.time + 4) exit.time
-    → ((image : List ℕ) → exit.may_leave image → StandsAsBefore entry image ⊎ (mark_of_image image ≤ stood.mark + 64 * (1 + length tried / 64)))
+    → LeavesOnly entry exit (λ image. StandsAsBefore entry image ⊎ (mark_of_image image ≤ most_at stood given))
+    → LeavesOnly entry exit (KeepsUnused entry)
     → ((taken ≢ []) ⊎ ((end.why ≢ BadVersion) × (end.why ≢ DiskFault)) → (image : List ℕ) → exit.may_leave image
-    → IsLoadable image × (mark_of_image image ≤ stood.mark + 64 * (1 + length tried / 64)))
+    → IsLoadable image × (mark_of_image image ≤ most_at stood given))
     → (end.why ≡ Done → IfSome exit.content (λ c. mark_of_image c ≡ stood.mark + 64 * blocks_of (life_at (told conf (reverse taken)))))
     → Lives conf turns entry exit before now end
-lives_made conf turns entry exit before now stood given tried taken ending need end text stood_for lived reports out ends well life_last kept loadable loads marks within calls blocks most loaded reserved = record {
+lives_made conf turns entry exit before now stood given taken ending need end text stood_for lived reports out ends well life_last kept loadable loads marks within calls blocks most unused loaded reserved = record {
   stood = stood;
   stood_for = stood_for;
-  given = given;
-  events = taken;
-  ending = ending;
-  need = need;
-  woven = is_weave lived.weaves;
-  weaves = lived.weaves;
-  grows = lived.grows;
-  tried = tried;
-  link = lived.link;
-  requests = lived.requests;
-  clock = lived.clock;
-  once = moves_once conf (reverse taken) lived.grows;
-  words = lived.words;
-  record_bytes = flat_map event_bytes taken;
-  spells = record { fits = lived.fits; written = refl };
-  capture = lived.capture;
-  text = text;
-  reports = reports;
-  out = out;
-  totals = lived.totals;
-  ends = ends;
-  link_failed = lived.link_failed;
-  well = well;
-  life_last = life_last;
-  kept = kept;
-  loadable = loadable;
-  loads = loads;
-  marks = marks;
-  within = within;
-  calls = calls;
-  blocks = blocks;
-  most = most;
-  loaded = loaded;
-  reserved = reserved;
+  woven = record {
+    given = given;
+    events = taken;
+    ending = ending;
+    need = need;
+    woven = is_weave lived.weaves;
+    weaves = lived.weaves;
+    grows = lived.grows;
+  };
+  effects = record {
+    link = lived.link;
+    requests = lived.requests;
+    by_turn = lived.order.by_turn;
+    asked = lived.order.asked;
+    in_turn = lived.order.in_turn;
+    clock = lived.clock;
+    moves = lived.moves;
+    rest = lived.order.rest;
+    one = lived.order.one;
+    at_once = lived.order.at_once;
+    once = moves_once conf (reverse taken) lived.grows;
+    words = lived.words;
+    record_bytes = flat_map event_bytes taken;
+    spells = record { fits = lived.fits; written = refl };
+    capture = lived.capture;
+    text = text;
+    reports = reports;
+    out = out;
+  };
+  ended = record {
+    ends = ends;
+    link_failed = lived.link_failed;
+    well = well;
+    life_last = life_last;
+    totals = lived.totals;
+  };
+  kept = record {
+    kept = kept;
+    loadable = loadable;
+    loads = loads;
+    marks = marks;
+    within = within;
+    calls = calls;
+    blocks = blocks;
+    most = most;
+    unused = unused;
+    loaded = loaded;
+    reserved = reserved;
+  };
 }
 
-lived_with : (conf : Conf) (turns : ℕ) (stood : Stood) (before now : Seen) (given : Given) (tried : List Tried) (taken : List Event) (ending : Ending) (need : Need) (why : Why) (end : LifeEnd)
-    → Lived conf turns stood before now given tried taken ending need end → Lived conf turns stood before now given tried taken ending need (with_why why end)
-lived_with conf turns stood before now given tried taken ending need why end lived = record {
+lived_with : (conf : Conf) (turns : ℕ) (stood : Stood) (before now : Seen) (given : Given) (taken : List Event) (ending : Ending) (need : Need) (why : Why) (end : LifeEnd)
+    → Lived conf turns stood before now given taken ending need end → Lived conf turns stood before now given taken ending need (with_why why end)
+lived_with conf turns stood before now given taken ending need why end lived = record {
   weaves = lived.weaves;
   grows = lived.grows;
   link = lived.link;
   requests = lived.requests;
   clock = lived.clock;
+  moves = lived.moves;
+  order = lived.order;
   words = lived.words;
   fits = lived.fits;
   capture = lived.capture;
-  totals = totals_with conf taken given.receipts tried why end lived.totals;
+  totals = totals_with conf taken given.link why end lived.totals;
   link_failed = lived.link_failed;
 }
 
@@ -497,17 +637,23 @@ within_of conf turns stood entry exit before now new why p =
     omega (arith, within, mark)
 
 -- what was called of the disk before the Life, and for the blocks behind it
-disk_calls : (conf : Conf) (turns : ℕ) (stood : Stood) (entry mid exit : DiskTold) (before now : Seen) (new : Running) (why : Why) (tried : List Tried) (p : Parted conf turns stood new mid exit before now why)
-    → map posted_of tried ≡ requests_of conf (reverse p.runs.taken) → mid.time ≤ entry.time + 4 → exit.time ≤ entry.time + 4 + 5 * (1 + length tried / 64)
-disk_calls conf turns stood entry mid exit before now new why tried p requests start =
-    omega (arith, p.calls, start, tries conf stood.mark p.runs.taken tried p.begins requests)
+disk_calls : (conf : Conf) (turns : ℕ) (stood : Stood) (entry mid exit : DiskTold) (before now : Seen) (new : Running) (why : Why) (calls : List LinkCall) (p : Parted conf turns stood new mid exit before now why)
+    → map posted_of (sends_among calls) ≡ requests_of conf (reverse p.runs.taken) → mid.time ≤ entry.time + 4 → exit.time ≤ entry.time + 4 + 5 * (1 + length (sends_among calls) / 64)
+disk_calls conf turns stood entry mid exit before now new why calls p requests start =
+    omega (arith, p.calls, start, tries conf stood.mark p.runs.taken calls p.begins requests)
 
--- no image stands for more than a block above those that the requests fill
-most_of : (conf : Conf) (turns : ℕ) (stood : Stood) (mid exit : DiskTold) (before now : Seen) (new : Running) (why : Why) (tried : List Tried) (p : Parted conf turns stood new mid exit before now why)
-    → map posted_of tried ≡ requests_of conf (reverse p.runs.taken) → (image : List ℕ) → exit.may_leave image → mark_of_image image ≤ stood.mark + 64 * (1 + length tried / 64)
-most_of conf turns stood mid exit before now new why tried p requests image left =
+-- no image of the turns stands for more than a block above those that the requests fill
+most_of : (conf : Conf) (turns : ℕ) (stood : Stood) (mid exit : DiskTold) (before now : Seen) (new : Running) (why : Why) (given : Given) (p : Parted conf turns stood new mid exit before now why)
+    → map posted_of (sends_among given.link) ≡ requests_of conf (reverse p.runs.taken) → LeavesOnly mid exit (λ image. mark_of_image image ≤ most_at stood given)
+most_of conf turns stood mid exit before now new why given p requests =
     let mark : unwrap_or (mark_in conf (reverse p.runs.taken)) 0 ≡ stood.mark = rw (life_mark conf stood.mark p.runs.taken p.begins) refl in
-    omega (arith, p.most image left, mark, tries conf stood.mark p.runs.taken tried p.begins requests)
+    let sent = tries conf stood.mark p.runs.taken given.link p.begins requests in
+    weaker p.most (λ image low. omega (arith, low, mark, sent))
+
+-- those of the load stand for marks at entry
+most_with : (entry mid exit : DiskTold) (stood : Stood) (given : Given) → LeavesOnly entry mid (StandsAsBefore entry) → LeavesOnly mid exit (λ image. mark_of_image image ≤ most_at stood given)
+    → LeavesOnly entry exit (λ image. StandsAsBefore entry image ⊎ (mark_of_image image ≤ most_at stood given))
+most_with entry mid exit stood given first next = and_then first next (λ image stands. inl stands) (λ image low. inr low)
 
 -- it can be loaded, as each image between the turns can
 loads_of : (mid exit : DiskTold) (running : Running) → IsGoing mid running → KeepsLoadable mid exit → (image : List ℕ) → exit.may_leave image → IsLoadable image
@@ -515,28 +661,43 @@ loads_of mid exit running going keeps image left = λ other.
     let was = (keeps.each image left).from other in
     going.fits.loads was.0 was.1 was.2
 
+-- what the start and the turns of a run did to its disk
+pub record OnDisk (entry mid exit : DiskTold) : Type 0 where
+  pub loads : IfSome entry.content IsLoadable
+  pub start : mid.time ≤ entry.time + 4
+  pub first : KeepsMarks entry mid
+  pub next : KeepsMarks mid exit
+  pub loads_first : KeepsLoadable entry mid
+  pub loads_next : KeepsLoadable mid exit
+  pub stands : LeavesOnly entry mid (StandsAsBefore entry)
+  pub unused_first : LeavesOnly entry mid (KeepsUnused entry)
+  pub unused_next : LeavesOnly mid exit (KeepsUnused mid)
+  pub is_mid : IsDisk mid
+  pub is_exit : IsDisk exit
+
 -- a run that a turn ended
 pub lives_stopped : (conf : Conf) (turns : ℕ) (entry mid exit : DiskTold) (before between now : Seen) (old new : Running) (why : Why) → why ≢ Done
     → HasBegun conf (Turns turns) entry before between old → IsGoing mid old
     → ((history : History) → StandsForHistory (member_of old) history → TakesTurns turns history old new mid exit between now why)
-    → IfSome entry.content IsLoadable → mid.time ≤ entry.time + 4 → KeepsMarks entry mid → KeepsMarks mid exit → KeepsLoadable entry mid → KeepsLoadable mid exit → Covers exit (greatest_of new)
+    → OnDisk entry mid exit → Covers exit (greatest_of new)
     → Lives conf turns entry exit before now (with_why why (totals_of new))
-lives_stopped conf turns entry mid exit before between now old new why not begun going took loads start first next loads_first loads_next covers =
+lives_stopped conf turns entry mid exit before between now old new why not begun going took disk covers =
     let stood = begun.stood in
     let p = parted_of conf turns entry mid exit before between now old new why begun going took in
     let r = p.runs in
     let lived = lived_of conf turns stood before now stood.mark (kept_of new) (totals_of new) why r in
     let end = with_why why (totals_of new) in
-    lives_made conf turns entry exit before now stood r.given r.tried r.taken r.ending r.need end (printed conf [] r.deeds r.ending) begun.stood_for
-    (lived_with conf turns stood before now r.given r.tried r.taken r.ending r.need why (totals_of new) lived)
+    let most = most_of conf turns stood mid exit before now new why r.given p lived.requests in
+    lives_made conf turns entry exit before now stood r.given r.taken r.ending r.need end (printed conf [] r.deeds r.ending) begun.stood_for
+    (lived_with conf turns stood before now r.given r.taken r.ending r.need why (totals_of new) lived)
     (reports_of conf end r.deeds r.ending r.need r.taken r.takes not r.does.has_line) r.does.out r.ends r.well (λ is now only. absurd (p.behind is now only))
-    (kept_by conf why stood r.taken entry exit p.begins p.due) (λ any. loads) (loads_then loads_first loads_next)
-    (marks_kept conf stood.mark (greatest_of new) r.taken entry exit p.begins covers p.greatest (marks_then first next))
+    (kept_by conf why stood r.taken entry exit p.begins p.due) (λ any. disk.loads) (loads_then disk.loads_first disk.loads_next)
+    (marks_kept conf stood.mark (greatest_of new) r.taken entry exit p.begins covers p.greatest (marks_then disk.first disk.next))
     (λ some. within_of conf turns stood mid exit before now new why p)
-    (disk_calls conf turns stood entry mid exit before now new why r.tried p lived.requests start)
-    (blocks_within why r.ending r.need (life_at (told conf (reverse r.taken))) mid.time (entry.time + 4) exit.time exit.time start (omega arith) p.blocks)
-    (λ image left. inr (most_of conf turns stood mid exit before now new why r.tried p lived.requests image left))
-    (λ any image left. (loads_of mid exit old going loads_next image left, most_of conf turns stood mid exit before now new why r.tried p lived.requests image left)) (λ is. absurd (not is))
+    (disk_calls conf turns stood entry mid exit before now new why r.given.link p lived.requests disk.start)
+    (blocks_within why r.ending r.need (life_at (told conf (reverse r.taken))) mid.time (entry.time + 4) exit.time exit.time disk.start (omega arith) p.blocks)
+    (most_with entry mid exit stood r.given disk.stands most) (unused_then disk.is_mid disk.unused_first disk.unused_next)
+    (λ any image left. (loads_of mid exit old going disk.loads_next image left, left_now mid exit _ disk.is_exit most image left)) (λ is. absurd (not is))
 
 -- ---- The closing lines
 
@@ -550,65 +711,70 @@ report_whole : (conf : Conf) (deeds : List Deed) (taken : List Event) → deeds 
 report_whole conf deeds taken is = ap (along (line_in conf) []) is ∙ sym (lines_are conf taken)
 
 -- the same where nothing but the report changed
-lived_as : (conf : Conf) (turns : ℕ) (stood : Stood) (before : Seen) (link : Option LinkTold) (clock : Option ClockTold) (words capture out out' : Option (List ℕ)) (link_faults : ℕ) (fs fs' : Faults) (given : Given) (tried : List Tried) (taken : List Event) (ending : Ending) (need : Need) (why : Why) (end : LifeEnd)
+lived_as : (conf : Conf) (turns : ℕ) (stood : Stood) (before : Seen) (link : Option (List LinkCall)) (clock : Option (List ClockCall)) (words capture out out' : Option (List ℕ)) (link_faults : ℕ) (fs fs' : Faults) (given : Given) (taken : List Event) (ending : Ending) (need : Need) (why : Why) (end : LifeEnd)
     → missing_in ending ≡ [] → cut_record ending ≡ []
-    → Lived conf turns stood before (seen link clock words capture out link_faults fs) given tried taken Whole need end
-    → Lived conf turns stood before (seen link clock words capture out' link_faults fs') given tried taken ending need (with_why why end)
-lived_as conf turns stood before link clock words capture out out' link_faults fs fs' given tried taken ending need why end missing cut lived = record {
+    → Lived conf turns stood before (seen link clock words capture out link_faults fs) given taken Whole need end
+    → Lived conf turns stood before (seen link clock words capture out' link_faults fs') given taken ending need (with_why why end)
+lived_as conf turns stood before link clock words capture out out' link_faults fs fs' given taken ending need why end missing cut lived = record {
   weaves = rw missing lived.weaves;
   grows = lived.grows;
   link = lived.link;
   requests = lived.requests;
   clock = lived.clock;
+  moves = lived.moves;
+  order = lived.order;
   words = lived.words;
   fits = lived.fits;
   capture = rw cut lived.capture;
-  totals = totals_with conf taken given.receipts tried why end lived.totals;
+  totals = totals_with conf taken given.link why end lived.totals;
   link_failed = lived.link_failed;
 }
 
 -- where all turns were taken and nothing but the Life, there was none
-life_only : {conf : Conf} {turns : ℕ} {stood : Stood} {history : History} {rs : List ℤ} {ws : List ℕ} {qs : List Receipt} {es : List Event} {need : Need} {time : ℤ}
-    → Weaves conf (Start stood (Turns turns)) history rs ws qs es need → es ≡ Life time stood.mark ∷ [] → need ≡ Turns 0 → need ≡ Turns turns
+life_only : {conf : Conf} {turns : ℕ} {stood : Stood} {history : History} {cs : List ClockCall} {ws : List ℕ} {ls : List LinkCall} {es : List Event} {need : Need} {time : ℤ}
+    → Weaves conf (Start stood (Turns turns)) history cs ws ls es need → es ≡ Life time stood.mark ∷ [] → need ≡ Turns 0 → behind_act need ≡ Turns turns
 life_only none only is = absurd (let bad : ⊥ = cc in bad)
-life_only (life none) only is = refl
-life_only (life (reads none)) only is = absurd (let bad : ⊥ = cc in bad)
-life_only (life (reads (draws rest))) only is = absurd (let bad : ⊥ = cc in bad)
+life_only (life none) only is = absurd (let bad : ⊥ = cc is in bad)
+life_only (life (acts tried are none)) only is = refl
+life_only (life (acts tried are (reads none))) only is = absurd (let bad : ⊥ = cc in bad)
+life_only (life (acts tried are (reads (draws rest)))) only is = absurd (let bad : ⊥ = cc in bad)
 
-module _ (conf : Conf) (turns : ℕ) (entry exit : DiskTold) (before : Seen) (stood : Stood) (given : Given) (tried : List Tried) (taken : List Event) (need : Need) (end : LifeEnd) (printed_text : List ℕ)
-    (link : Option LinkTold) (clock : Option ClockTold) (words capture out out' : Option (List ℕ)) (link_faults cf ef df kf of of' : ℕ)
+module _ (conf : Conf) (turns : ℕ) (entry exit : DiskTold) (before : Seen) (stood : Stood) (given : Given) (taken : List Event) (need : Need) (end : LifeEnd) (printed_text : List ℕ)
+    (link : Option (List LinkCall)) (clock : Option (List ClockCall)) (words capture out out' : Option (List ℕ)) (link_faults cf ef df kf of of' : ℕ)
     (stood_for : IfSome entry.content (λ c. stood.mark ≡ mark_of_image c))
-    (lived : Lived conf turns stood before (seen link clock words capture out link_faults (faults cf ef df kf of)) given tried taken Whole need end)
+    (lived : Lived conf turns stood before (seen link clock words capture out link_faults (faults cf ef df kf of)) given taken Whole need end)
     (is_report : printed_text ≡ report_of conf (reverse taken)) (wrote : Added before.out out printed_text)
     (same : faults cf ef df kf of ≡ before.faults) (well : need ≡ Turns 0) (loads : IfSome entry.content IsLoadable) (still : KeepsLoadable entry exit)
     (marks : MarksBeforeSends entry exit stood.mark (told conf (reverse taken)))
     (within : stood.mark + 64 * blocks_of (life_at (told conf (reverse taken))) < 2 ^ 32)
-    (calls : exit.time ≤ entry.time + 4 + 5 * (1 + length tried / 64))
+    (calls : exit.time ≤ entry.time + 4 + 5 * (1 + length (sends_among given.link) / 64))
     (blocks : exit.time ≤ entry.time + 4 + 5 * blocks_of (life_at (told conf (reverse taken))))
-    (most : (image : List ℕ) → exit.may_leave image → mark_of_image image ≤ stood.mark + 64 * (1 + length tried / 64))
+    (most : LeavesOnly entry exit (λ image. StandsAsBefore entry image ⊎ (mark_of_image image ≤ most_at stood given)))
+    (unused : LeavesOnly entry exit (KeepsUnused entry))
+    (low : (image : List ℕ) → exit.may_leave image → mark_of_image image ≤ most_at stood given)
     (loaded : (image : List ℕ) → exit.may_leave image → IsLoadable image)
     (reserved : IfSome exit.content (λ c. mark_of_image c ≡ stood.mark + 64 * blocks_of (life_at (told conf (reverse taken))))) where
   closes : (why : Why) → Closes end why out out' of of'
       → Lives conf turns entry exit before (seen link clock words capture out' link_faults (faults cf ef df kf of')) (with_why why end)
   closes Done (added, none_failed) =
       let text = printed_text ++ joined (closing_lines end) in
-      lives_made conf turns entry exit before (seen link clock words capture out' link_faults (faults cf ef df kf of')) stood given tried taken Whole need (with_why Done end) text stood_for
-      (lived_as conf turns stood before link clock words capture out out' link_faults (faults cf ef df kf of) (faults cf ef df kf of') given tried taken Whole need Done end refl refl lived)
+      lives_made conf turns entry exit before (seen link clock words capture out' link_faults (faults cf ef df kf of')) stood given taken Whole need (with_why Done end) text stood_for
+      (lived_as conf turns stood before link clock words capture out out' link_faults (faults cf ef df kf of) (faults cf ef df kf of') given taken Whole need Done end refl refl lived)
       (ap (λ (l : List ℕ). l ++ joined (closing_lines end)) is_report)
       (added_more before.out out out' printed_text (joined (closing_lines end)) wrote added)
       (tt, ap (λ (n : ℕ). faults cf ef df kf n) none_failed ∙ same)
-      (λ is. well) (λ is now only. absurd (let bad : ⊥ = cc is in bad)) tt (λ any. loads) still marks (λ some. within) calls (inl blocks) (λ image left. inr (most image left)) (λ any image left. (loaded image left, most image left)) (λ is. reserved)
+      (λ is. well) (λ is now only. absurd (let bad : ⊥ = cc is in bad)) tt (λ any. loads) still marks (λ some. within) calls (inl blocks) most unused (λ any image left. (loaded image left, low image left)) (λ is. reserved)
   closes SinkFault (first, rest, line, front, are, added, fails) =
       let cut = joined first ++ take front line in
       let text = printed_text ++ cut in
       let ending = NoLine (Print line) front in
       let Failed : Faults → Type 0 = λ (f : Faults). Fails f.out of' × (faults cf ef df kf of' ≡ record f { out = of' }) in
-      lives_made conf turns entry exit before (seen link clock words capture out' link_faults (faults cf ef df kf of')) stood given tried taken ending need (with_why SinkFault end) text stood_for
-      (lived_as conf turns stood before link clock words capture out out' link_faults (faults cf ef df kf of) (faults cf ef df kf of') given tried taken ending need SinkFault end refl refl lived)
+      lives_made conf turns entry exit before (seen link clock words capture out' link_faults (faults cf ef df kf of')) stood given taken ending need (with_why SinkFault end) text stood_for
+      (lived_as conf turns stood before link clock words capture out out' link_faults (faults cf ef df kf of) (faults cf ef df kf of') given taken ending need SinkFault end refl refl lived)
       (first, rest, well, are, ap (λ (l : List ℕ). l ++ cut) is_report ∙ sym (append_assoc (report_of conf (reverse taken)) (joined first) (take front line)))
       (added_more before.out out out' printed_text cut wrote added)
       (well, subst Failed same (fails, refl))
-      (λ is. well) (λ is now only. life_only lived.weaves (ap (λ (l : List Event). taken ++ l) refl ∙ only) well) tt (λ any. loads) still marks (λ some. within) calls (inl blocks) (λ image left. inr (most image left)) (λ any image left. (loaded image left, most image left)) (λ is. reserved)
+      (λ is. well) (λ is now only. life_only lived.weaves (ap (λ (l : List Event). taken ++ l) refl ∙ only) well) tt (λ any. loads) still marks (λ some. within) calls (inl blocks) most unused (λ any image left. (loaded image left, low image left)) (λ is. reserved)
   closes DiskFault never = absurd never
   closes BadVersion never = absurd never
   closes StampsSpent never = absurd never
@@ -623,14 +789,13 @@ reserved_at conf turns stood entry exit before now new p going =
     let mark : unwrap_or (mark_in conf (reverse p.runs.taken)) 0 ≡ stood.mark = rw (life_mark conf stood.mark p.runs.taken p.begins) refl in
     some_as _ _ exit.content (λ c is. omega (arith, is, blocks, mark)) going.fits.content
 
-pub lives_closed : (conf : Conf) (turns : ℕ) (entry mid exit : DiskTold) (before between : Seen) (link : Option LinkTold) (clock : Option ClockTold) (words capture out out' : Option (List ℕ)) (link_faults cf ef df kf of of' : ℕ) (old new : Running) (why : Why)
+pub lives_closed : (conf : Conf) (turns : ℕ) (entry mid exit : DiskTold) (before between : Seen) (link : Option (List LinkCall)) (clock : Option (List ClockCall)) (words capture out out' : Option (List ℕ)) (link_faults cf ef df kf of of' : ℕ) (old new : Running) (why : Why)
     → HasBegun conf (Turns turns) entry before between old → IsGoing mid old
     → ((history : History) → StandsForHistory (member_of old) history → TakesTurns turns history old new mid exit between (seen link clock words capture out link_faults (faults cf ef df kf of)) Done)
-    → IfSome entry.content IsLoadable → mid.time ≤ entry.time + 4 → KeepsMarks entry mid → KeepsMarks mid exit → KeepsLoadable entry mid → KeepsLoadable mid exit
-    → Covers exit (greatest_of new) → IsGoing exit new
+    → OnDisk entry mid exit → Covers exit (greatest_of new) → IsGoing exit new
     → Closes (totals_of new) why out out' of of'
     → Lives conf turns entry exit before (seen link clock words capture out' link_faults (faults cf ef df kf of')) (with_why why (totals_of new))
-lives_closed conf turns entry mid exit before between link clock words capture out out' link_faults cf ef df kf of of' old new why begun going took loads start first next loads_first loads_next covers goes closing =
+lives_closed conf turns entry mid exit before between link clock words capture out out' link_faults cf ef df kf of of' old new why begun going took disk covers goes closing =
     let stood = begun.stood in
     let taken : Seen = seen link clock words capture out link_faults (faults cf ef df kf of) in
     let p = parted_of conf turns entry mid exit before between taken old new Done begun going took in
@@ -638,13 +803,15 @@ lives_closed conf turns entry mid exit before between link clock words capture o
     let whole = whole_is r.ending r.ends.0 in
     let lived = lived_of conf turns stood before taken stood.mark (kept_of new) (totals_of new) Done r in
     let takes = rw whole at r.takes in
-    closes conf turns entry exit before stood r.given r.tried r.taken r.need (totals_of new) (printed conf [] r.deeds Whole)
+    let most = most_of conf turns stood mid exit before taken new Done r.given p lived.requests in
+    closes conf turns entry exit before stood r.given r.taken r.need (totals_of new) (printed conf [] r.deeds Whole)
     link clock words capture out out' link_faults cf ef df kf of of' begun.stood_for (rw whole at lived) (report_whole conf r.deeds r.taken takes) (rw whole at r.does.out)
-    r.ends.1 (r.well refl) loads (loads_then loads_first loads_next) (marks_kept conf stood.mark (greatest_of new) r.taken entry exit p.begins covers p.greatest (marks_then first next))
+    r.ends.1 (r.well refl) disk.loads (loads_then disk.loads_first disk.loads_next) (marks_kept conf stood.mark (greatest_of new) r.taken entry exit p.begins covers p.greatest (marks_then disk.first disk.next))
     (within_of conf turns stood mid exit before taken new Done p)
-    (disk_calls conf turns stood entry mid exit before taken new Done r.tried p lived.requests start)
-    (let few = blocks_whole Done r.ending r.need (life_at (told conf (reverse r.taken))) mid.time exit.time whole (r.well refl) p.blocks in omega (arith, few, start))
-    (most_of conf turns stood mid exit before taken new Done r.tried p lived.requests) (loads_of mid exit old going loads_next) (reserved_at conf turns stood mid exit before taken new p goes) why closing
+    (disk_calls conf turns stood entry mid exit before taken new Done r.given.link p lived.requests disk.start)
+    (let start = disk.start in let few = blocks_whole Done r.ending r.need (life_at (told conf (reverse r.taken))) mid.time exit.time whole (r.well refl) p.blocks in omega (arith, few, start))
+    (most_with entry mid exit stood r.given disk.stands most) (unused_then disk.is_mid disk.unused_first disk.unused_next) (left_now mid exit _ disk.is_exit most)
+    (loads_of mid exit old going disk.loads_next) (reserved_at conf turns stood mid exit before taken new p goes) why closing
 
 -- ---- A run that ended in its first part
 
@@ -660,26 +827,30 @@ start_need turns (CallReading wait flags) = CallReading wait flags
 start_need turns (CallWord wait flags now) = CallWord wait flags now
 start_need turns (Round left) = Round left
 start_need turns (RoundReading left from bytes) = RoundReading left from bytes
+start_need turns (Act outcome behind) = Act outcome (start_need turns behind)
 
-start_weaves : {conf : Conf} {turns : ℕ} {stood : Stood} {history : History} {rs : List ℤ} {ws : List ℕ} {qs : List Receipt} {es : List Event} {need : Need}
-    → Weaves conf (Start stood Call) history rs ws qs es need → Weaves conf (Start stood (Turns turns)) history rs ws qs es (start_need turns need)
+start_weaves : {conf : Conf} {turns : ℕ} {stood : Stood} {history : History} {cs : List ClockCall} {ws : List ℕ} {ls : List LinkCall} {es : List Event} {need : Need}
+    → Weaves conf (Start stood Call) history cs ws ls es need → Weaves conf (Start stood (Turns turns)) history cs ws ls es (start_need turns need)
 start_weaves none = none
 start_weaves (life none) = life none
+start_weaves (life (acts tried are none)) = life (acts tried are none)
 
 -- the events are none, or the Life alone
 abbrev AtStart : ℕ → List Event → Type 0
 AtStart mark es = (es ≡ []) ⊎ ((now : ℤ) × (es ≡ Life now mark ∷ []))
 
-at_start : {conf : Conf} {stood : Stood} {history : History} {rs : List ℤ} {ws : List ℕ} {qs : List Receipt} {es : List Event} {need : Need}
-    → Weaves conf (Start stood Call) history rs ws qs es need → AtStart stood.mark es
+at_start : {conf : Conf} {stood : Stood} {history : History} {cs : List ClockCall} {ws : List ℕ} {ls : List LinkCall} {es : List Event} {need : Need}
+    → Weaves conf (Start stood Call) history cs ws ls es need → AtStart stood.mark es
 at_start none = inl refl
 at_start (life {now = now} none) = inr (now, refl)
+at_start (life {now = now} (acts tried are none)) = inr (now, refl)
 
 -- before the Life
-start_none : {conf : Conf} {stood : Stood} {history : History} {rs : List ℤ} {ws : List ℕ} {qs : List Receipt} {es : List Event} {need : Need}
-    → Weaves conf (Start stood Call) history rs ws qs es need → need ≡ Call ⊎ (es ≡ [])
+start_none : {conf : Conf} {stood : Stood} {history : History} {cs : List ClockCall} {ws : List ℕ} {ls : List LinkCall} {es : List Event} {need : Need}
+    → Weaves conf (Start stood Call) history cs ws ls es need → (behind_act need ≡ Call) ⊎ (es ≡ [])
 start_none none = inr refl
 start_none (life none) = inl refl
+start_none (life (acts tried are none)) = inl refl
 
 start_disk : (turns : ℕ) (need : Need) → NeedsDisk need → NeedsDisk (start_need turns need)
 start_disk turns (Start stood next) needs = tt
@@ -692,6 +863,7 @@ start_disk turns (CallReading wait flags) needs = tt
 start_disk turns (CallWord wait flags now) needs = absurd needs
 start_disk turns (Round left) needs = absurd needs
 start_disk turns (RoundReading left from bytes) needs = absurd needs
+start_disk turns (Act outcome behind) needs = absurd needs
 
 start_mark : (turns : ℕ) (need : Need) → NeedsMark need → NeedsMark (start_need turns need)
 start_mark turns (Start stood next) needs = tt
@@ -704,6 +876,7 @@ start_mark turns (CallReading wait flags) needs = absurd needs
 start_mark turns (CallWord wait flags now) needs = absurd needs
 start_mark turns (Round left) needs = absurd needs
 start_mark turns (RoundReading left from bytes) needs = absurd needs
+start_mark turns (Act outcome behind) needs = absurd needs
 
 start_reading : (turns : ℕ) (need : Need) → NeedsReading need → NeedsReading (start_need turns need)
 start_reading turns (Start stood next) needs = tt
@@ -716,17 +889,52 @@ start_reading turns (CallReading wait flags) needs = tt
 start_reading turns (CallWord wait flags now) needs = absurd needs
 start_reading turns (Round left) needs = absurd needs
 start_reading turns (RoundReading left from bytes) needs = tt
+start_reading turns (Act outcome behind) needs = absurd needs
 
+life_to_do : (turns : ℕ) (now : ℤ) (mark : ℕ) (need : Need) → IsToDo (Life now mark) need → IsToDo (Life now mark) (start_need turns need)
+life_to_do turns now mark (Act outcome behind) does = tt
+life_to_do turns now mark (Start stood next) does = absurd does
+life_to_do turns now mark (Turns left) does = absurd does
+life_to_do turns now mark (WordFor left time) does = absurd does
+life_to_do turns now mark (ReceiptNow left) does = absurd does
+life_to_do turns now mark (ReadingFor left from bytes) does = absurd does
+life_to_do turns now mark Call does = absurd does
+life_to_do turns now mark (CallReading wait flags) does = absurd does
+life_to_do turns now mark (CallWord wait flags time) does = absurd does
+life_to_do turns now mark (Round left) does = absurd does
+life_to_do turns now mark (RoundReading left from bytes) does = absurd does
+
+-- the event that is not whole is the Life
 start_stops : (turns mark : ℕ) (deeds : List Deed) (ending : Ending) (taken : List Event) (need : Need) (a b : Faults) → all_done deeds ending ≡ map Take taken
-    → AtStart mark (events_given deeds ending) → SinkFailed ending a b → StopsAt ending (start_need turns need)
-start_stops turns mark deeds ending taken need a b takes (inl nothing) failed =
+    → AtStart mark (events_given deeds ending) → StopsAt ending need → SinkFailed ending a b → StopsAt ending (start_need turns need)
+start_stops turns mark deeds ending taken need a b takes (inl nothing) stops failed =
     absurd (none_ended deeds ending taken a b takes failed (sym (given_are deeds ending taken takes) ∙ nothing))
-start_stops turns mark deeds ending taken need a b takes (inr (now, is)) failed =
-    stops_behind deeds ending (Life now mark) taken (start_need turns need) a b is takes tt failed
+start_stops turns mark deeds Whole taken need a b takes (inr (now, is)) stops failed = absurd failed
+start_stops turns mark deeds (NoRecord event front) taken need a b takes (inr (now, is)) stops failed =
+    let first : event ≡ Life now mark = last_one (flat_map events_in deeds) event (Life now mark) is in
+    subst (λ (e : Event). IsToDo e (start_need turns need)) (sym first)
+    (life_to_do turns now mark need (subst (λ (e : Event). IsToDo e need) first stops))
+start_stops turns mark deeds (NoLine (Take event) front) taken need a b takes (inr (now, is)) stops failed =
+    let split : flat_map events_in deeds ++ event ∷ [] ≡ Life now mark ∷ [] = sym (flat_map-append events_in deeds (Take event ∷ [])) ∙ is in
+    subst (λ (e : Event). IsBehind e (start_need turns need)) (sym (last_one (flat_map events_in deeds) event (Life now mark) split)) tt
+start_stops turns mark deeds (NoLine (Print line) front) taken need a b takes (inr (now, is)) stops failed = absurd (no_print deeds line taken takes)
 
 -- behind the Life the first turn is needed
-first_turn : (turns : ℕ) (need : Need) (es : List Event) (e : Event) → (need ≡ Call) ⊎ (es ≡ []) → es ≡ e ∷ [] → start_need turns need ≡ Turns turns
-first_turn turns need es e (inl is) only = ap (start_need turns) is
+start_behind : (turns : ℕ) (need : Need) → behind_act (start_need turns need) ≡ start_need turns (behind_act need)
+start_behind turns (Act outcome behind) = refl
+start_behind turns (Start stood next) = refl
+start_behind turns (Turns left) = refl
+start_behind turns (WordFor left time) = refl
+start_behind turns (ReceiptNow left) = refl
+start_behind turns (ReadingFor left from bytes) = refl
+start_behind turns Call = refl
+start_behind turns (CallReading wait flags) = refl
+start_behind turns (CallWord wait flags time) = refl
+start_behind turns (Round left) = refl
+start_behind turns (RoundReading left from bytes) = refl
+
+first_turn : (turns : ℕ) (need : Need) (es : List Event) (e : Event) → (behind_act need ≡ Call) ⊎ (es ≡ []) → es ≡ e ∷ [] → behind_act (start_need turns need) ≡ Turns turns
+first_turn turns need es e (inl is) only = start_behind turns need ∙ ap (start_need turns) is
 first_turn turns need es e (inr nothing) only = absurd (let bad : ⊥ = cc (nothing, only) in bad)
 
 start_ends : (turns mark : ℕ) (why : Why) (deeds : List Deed) (ending : Ending) (taken : List Event) (need : Need) (a b : Faults) → IsOfStart why
@@ -737,7 +945,7 @@ start_ends turns mark BadVersion deeds ending taken need a b of takes at ends = 
 start_ends turns mark StampsSpent deeds ending taken need a b of takes at ends = absurd of
 start_ends turns mark ClockFault deeds ending taken need a b of takes at ends = (ends.0, start_reading turns need ends.1, ends.2)
 start_ends turns mark EntropyFault deeds ending taken need a b of takes at ends = absurd of
-start_ends turns mark SinkFault deeds ending taken need a b of takes at ends = (start_stops turns mark deeds ending taken need a b takes at ends.1, ends.1)
+start_ends turns mark SinkFault deeds ending taken need a b of takes at ends = (start_stops turns mark deeds ending taken need a b takes at ends.0 ends.1, ends.1)
 
 never_done : (why : Why) → IsOfStart why → why ≢ Done
 never_done Done of is = of
@@ -752,7 +960,6 @@ start_runs : (conf : Conf) (turns : ℕ) (stood : Stood) (before now : Seen) (ke
     → Runs conf (Start stood Call) Call [] before now kept kept' (ended Done) end why → Runs conf (Start stood (Turns turns)) (Turns 0) [] before now kept kept' (ended Done) end why
 start_runs conf turns stood before now kept kept' end why of r = record {
   given = r.given;
-  tried = r.tried;
   deeds = r.deeds;
   ending = r.ending;
   need = start_need turns r.need;
@@ -794,14 +1001,28 @@ start_within conf mark taken (inr (now, is)) fit some =
     rw is (omega (arith, low))
 
 -- the disk is called before the Life
+disk_not_call : (need : Need) → NeedsMark need ⊎ NeedsDisk need → behind_act need ≡ Call → ⊥
+disk_not_call (Act outcome behind) (inl needs) is = needs
+disk_not_call (Act outcome behind) (inr needs) is = needs
+disk_not_call (Start stood next) needs is = let bad : ⊥ = cc is in bad
+disk_not_call (Turns left) needs is = let bad : ⊥ = cc is in bad
+disk_not_call (WordFor left time) needs is = let bad : ⊥ = cc is in bad
+disk_not_call (ReceiptNow left) needs is = let bad : ⊥ = cc is in bad
+disk_not_call (ReadingFor left from bytes) needs is = let bad : ⊥ = cc is in bad
+disk_not_call Call (inl needs) is = needs
+disk_not_call Call (inr needs) is = needs
+disk_not_call (CallReading wait flags) needs is = let bad : ⊥ = cc is in bad
+disk_not_call (CallWord wait flags time) needs is = let bad : ⊥ = cc is in bad
+disk_not_call (Round left) needs is = let bad : ⊥ = cc is in bad
+disk_not_call (RoundReading left from bytes) needs is = let bad : ⊥ = cc is in bad
+
 before_life : (deeds : List Deed) (ending : Ending) (need : Need) (taken : List Event) → all_done deeds ending ≡ map Take taken → IsWhole ending → NeedsMark need ⊎ NeedsDisk need
-    → (need ≡ Call) ⊎ (events_given deeds ending ≡ []) → taken ≡ []
-before_life deeds ending need taken takes whole (inl needs) (inl is) = absurd (subst NeedsMark is needs)
-before_life deeds ending need taken takes whole (inr needs) (inl is) = absurd (subst NeedsDisk is needs)
+    → (behind_act need ≡ Call) ⊎ (events_given deeds ending ≡ []) → taken ≡ []
+before_life deeds ending need taken takes whole needs (inl is) = absurd (disk_not_call need needs is)
 before_life deeds ending need taken takes whole needs (inr is) = sym (whole_given deeds ending taken whole takes) ∙ is
 
 kept_at_start : (why : Why) (conf : Conf) (stood : Stood) (entry exit : DiskTold) (before now : Seen) (deeds : List Deed) (ending : Ending) (need : Need) (taken : List Event) (told_before : List Told) → IsOfStart why
-    → all_done deeds ending ≡ map Take taken → (need ≡ Call) ⊎ (events_given deeds ending ≡ []) → LifeEndsBy why ending need before.faults now.faults
+    → all_done deeds ending ≡ map Take taken → (behind_act need ≡ Call) ⊎ (events_given deeds ending ≡ []) → LifeEndsBy why ending need before.faults now.faults
     → (why ≡ BadVersion → IfSome entry.content HasOtherVersion) → (why ≡ BadVersion → IsLeft entry exit) → KeptBy why stood taken told_before entry exit
 kept_at_start Done conf stood entry exit before now deeds ending need taken told_before of takes first ends version left = tt
 kept_at_start DiskFault conf stood entry exit before now deeds ending need taken told_before of takes first ends version left =
@@ -815,7 +1036,7 @@ kept_at_start SinkFault conf stood entry exit before now deeds ending need taken
 
 -- what ended at the disk took no event
 begun_not : (why : Why) (before now : Seen) (deeds : List Deed) (ending : Ending) (need : Need) (taken : List Event) → IsOfStart why
-    → all_done deeds ending ≡ map Take taken → (need ≡ Call) ⊎ (events_given deeds ending ≡ []) → LifeEndsBy why ending need before.faults now.faults
+    → all_done deeds ending ≡ map Take taken → (behind_act need ≡ Call) ⊎ (events_given deeds ending ≡ []) → LifeEndsBy why ending need before.faults now.faults
     → taken ≢ [] → (why ≢ BadVersion) × (why ≢ DiskFault)
 begun_not Done before now deeds ending need taken of takes first ends some = absurd of
 begun_not DiskFault before now deeds ending need taken of takes first ends some = absurd (some (before_life deeds ending need taken takes ends.0 (inr ends.1) first))
@@ -842,10 +1063,11 @@ from_mark entry exit stood image n stood_for from = (from.0, by_content entry.co
 
 pub lives_never : (conf : Conf) (turns : ℕ) (entry exit : DiskTold) (before now : Seen) (why : Why) → IsOfStart why → HasStopped conf Call entry before now why
     → (why ≡ BadVersion → IfSome entry.content HasOtherVersion) → (why ≡ BadVersion → IsLeft entry exit) → (why ≢ BadVersion → why ≢ DiskFault → IfSome entry.content IsLoadable)
-    → exit.time ≤ entry.time + 4 → KeepsMarks entry exit → KeepsLoadable entry exit → AddsNoMark entry exit → (why ≢ BadVersion → why ≢ DiskFault → IsLoadedFrom entry exit)
+    → exit.time ≤ entry.time + 4 → KeepsMarks entry exit → KeepsLoadable entry exit → LeavesOnly entry exit (StandsAsBefore entry) → LeavesOnly entry exit (KeepsUnused entry)
+    → (why ≢ BadVersion → why ≢ DiskFault → IsLoadedFrom entry exit)
     → Lives conf turns entry exit before now (ended why)
 unfolding start_runs
-lives_never conf turns entry exit before now why of stopped version left loads calls least still adds from =
+lives_never conf turns entry exit before now why of stopped version left loads calls least still stands unused from =
     let stood = stopped.stood in
     let r = stopped.runs in
     let all = start_runs conf turns stood before now stood.mark stood.mark (ended Done) why of r in
@@ -855,8 +1077,8 @@ lives_never conf turns entry exit before now why of stopped version left loads c
     let sent = none_sent conf stood.mark all.taken (taken_start stood.mark all.taken (missing_in all.ending) at) in
     let P : List Request → Type 0 = λ (rs : List Request). AllByRecursion (λ q. stood.mark < q.count) rs in
     let Q : List ℕ → List Request → Type 0 = λ (image : List ℕ) (rs : List Request). AllByRecursion (λ q. q.count ≤ mark_of_image image) rs in
-    lives_made conf turns entry exit before now stood all.given all.tried all.taken all.ending all.need (ended why) (printed conf [] all.deeds all.ending) stopped.stood_for
-    (lived_with conf turns stood before now all.given all.tried all.taken all.ending all.need why (ended Done) lived)
+    lives_made conf turns entry exit before now stood all.given all.taken all.ending all.need (ended why) (printed conf [] all.deeds all.ending) stopped.stood_for
+    (lived_with conf turns stood before now all.given all.taken all.ending all.need why (ended Done) lived)
     (reports_of conf (ended why) all.deeds all.ending all.need all.taken all.takes not all.does.has_line) all.does.out all.ends (λ is. absurd (not is))
     (λ is time only. first_turn turns r.need (events_given r.deeds r.ending) (Life time stood.mark) (start_none r.weaves) (given_are r.deeds r.ending r.taken r.takes ∙ only))
     (kept_at_start why conf stood entry exit before now r.deeds r.ending r.need r.taken (told conf (reverse all.taken)) of r.takes (start_none r.weaves) r.ends version left)
@@ -864,7 +1086,7 @@ lives_never conf turns entry exit before now why of stopped version left loads c
     still
     (record { above = subst P (sym sent) tt; covered = λ image left. subst (Q image) (sym sent) tt; least = least })
     (start_within conf stood.mark all.taken (taken_start stood.mark all.taken (missing_in all.ending) at) lived.fits)
-    (omega (arith, calls)) (inl (omega (arith, calls))) (λ image left. inl (adds.each image left))
+    (omega (arith, calls)) (inl (omega (arith, calls))) (weaker stands (λ image was. inl was)) unused
     (loadable_of (begun_not why before now r.deeds r.ending r.need r.taken of r.takes (start_none r.weaves) r.ends)
-    (λ neither image left. from_mark entry exit stood image (length all.tried) stopped.stood_for ((from neither.0 neither.1).each image left)))
+    (λ neither image left. from_mark entry exit stood image (length (sends_among all.given.link)) stopped.stood_for ((from neither.0 neither.1).each image left)))
     (λ is. absurd (not is))

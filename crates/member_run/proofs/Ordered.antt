@@ -10,8 +10,8 @@ use Rattle.time_machine.specs.Entries.{gather}
 use Rattle.time_machine.specs.Events.{History}
 use Rattle.time_machine.specs.Machine.{told, moves_by, moves_of, outcome_at, posted_by, requests_of}
 use Rattle.time_machine.specs.Report.{line_of, report_of}
-use Rattle.run_deeds.specs.Weaving.{followed_by}
-use Rattle.run_deeds.specs.Deeds.{Deed, Take, Ending, Whole, NoRecord, NoLine, along, all_done, captured, cut_record, events_given, events_in, history_after, line_in, missing_in, moves_in, posted_in, reasons_by, reasons_in, record_in, ticks_by, ticks_in}
+use Rattle.run_deeds.specs.Weaving.{followed_by, ticks_by}
+use Rattle.run_deeds.specs.Deeds.{Deed, Take, Ending, Whole, NoRecord, NoLine, along, all_done, captured, cut_record, events_given, events_in, history_after, line_in, missing_in, moves_in, posted_in, reasons_by, reasons_in, record_in, ticks_in}
 
 -- events that came after a history stand before it, the last one first
 pub followed-reverse : (history : History) (es : List Event) → followed_by history es ≡ reverse es ++ history

@@ -1,10 +1,11 @@
 -- A receipt, and the arrival of what was received.
-use Rattle.std.proofs.Common.{◌≡◌, inl, inr, ℕ, ℤ, Bool, List, [], ◌∷◌, Option, Result, Ok, Err, IfOk, refl, subst, arith}
+use Rattle.std.proofs.Common.{◌≡◌, inl, inr, ℕ, ℤ, Bool, List, [], ◌∷◌, map, Option, Result, Ok, Err, IfOk, refl, subst, arith}
 use Rattle.base_specs.specs.Counts.{Fails}
+use Rattle.base_specs.specs.Told.{Grew}
 use Rattle.edge_traits.specs.declared.datagram.Addr.{Addr}
 use Rattle.edge_traits.specs.declared.link.Receipt.TheVariants.{Got, Quiet, Failed}
-use Rattle.edge_traits.specs.Clock.{ClockTold, GaveReadings}
-use Rattle.edge_traits.specs.Link.{GaveReceipts, LinkTold, ReceiptCounts}
+use Rattle.edge_traits.specs.Clock.{ClockCall, GaveReadings, Read}
+use Rattle.edge_traits.specs.Link.{LinkCall, Receive, ReceiptCounts, Send}
 use Rattle.capture_fmt.specs.declared.event.Event.{Event}
 use Rattle.capture_fmt.specs.declared.event.Event.TheVariants.{Arrive}
 use Rattle.time_machine.specs.declared.conf.Conf.{Conf}
@@ -25,20 +26,20 @@ use Rattle.run_deeds.specs.declared.life_end.Why.{Why}
 use Rattle.run_deeds.specs.declared.life_end.Why.TheVariants.{Done, ClockFault}
 use Rattle.run_deeds.specs.Counting.{with_lost, with_quiet}
 use Rattle.run_deeds.specs.Deeds.{Whole}
-use Rattle.run_deeds.specs.Devices.{Faults, IsBehind, NeedsReading, Seen, faults, seen}
+use Rattle.run_deeds.specs.Devices.{Faults, IsBehind, NeedsReading, Seen, faults, nothing, seen}
 use Rattle.run_deeds.specs.Marks.{Reserved}
 use Rattle.run_deeds.specs.Parts.{Part, Tallies, why_of}
-use Rattle.run_deeds.specs.Weaving.{Need, Weaves}
+use Rattle.run_deeds.specs.Weaving.{Act, Need, Weaves}
 use Rattle.run_deeds.proofs.Doing.{does_read, does_receive, does_then}
 use Rattle.run_deeds.proofs.Stopping.{does_still}
 use Rattle.member_run.specs.declared.running.Running.{Running}
-use Rattle.member_run.specs.Taking.{IsTaken, TakeEnds, Takes, TakesAt, TakesTo, nothing}
+use Rattle.member_run.specs.Taking.{IsTaken, TakeEnds, Takes, TakesAt, TakesTo}
 use Rattle.member_run.proofs.Parting.{part_stops, part_takes}
 
 -- ---- The reading of an arrival
 
 -- the clock failed
-pub unread : (conf : Conf) (history : History) (event : ℤ → Event) (member : Member) (link : Option LinkTold) (clock clock' : Option ClockTold) (words capture out : Option (List ℕ))
+pub unread : (conf : Conf) (history : History) (event : ℤ → Event) (member : Member) (link : Option (List LinkCall)) (clock clock' : Option (List ClockCall)) (words capture out : Option (List ℕ))
     (lf cf cf' ef df kf of : ℕ) (end : LifeEnd) (why : Why)
     → conf_of member ≡ conf → StandsForHistory member history → why ≡ ClockFault → clock' ≡ clock → Fails cf cf'
     → TakesAt conf history event (seen link clock words capture out lf (faults cf ef df kf of)) (seen link clock' words capture out lf (faults cf' ef df kf of)) member end end why
@@ -53,20 +54,22 @@ unread conf history event member link clock clock' words capture out lf cf cf' e
     })
 
 -- the event is taken at the reading
-abbrev pub read_takes : (conf : Conf) (history : History) (event : Event) (link : Option LinkTold) (clock clock' : Option ClockTold) (words capture out : Option (List ℕ))
+abbrev pub read_takes : (conf : Conf) (history : History) (event : Event) (link : Option (List LinkCall)) (clock clock' : Option (List ClockCall)) (words capture out : Option (List ℕ))
     (lf cf cf' ef df kf of : ℕ) (member : Member) (after : Seen) (old new : LifeEnd) (why : Why) (time : ℤ)
     → GaveReadings clock clock' (time ∷ []) → cf' ≡ cf
-    → Takes conf history event nothing (seen link clock' words capture out lf (faults cf' ef df kf of)) after member old new why
-    → Takes conf history event (record { readings = time ∷ []; words = []; receipts = [] }) (seen link clock words capture out lf (faults cf ef df kf of)) after member old new why
+    → Takes conf history event [] (seen link clock' words capture out lf (faults cf' ef df kf of)) after member old new why
+    → Takes conf history event (Read time ∷ []) (seen link clock words capture out lf (faults cf ef df kf of)) after member old new why
 read_takes conf history event link clock clock' words capture out lf cf cf' ef df kf of member after old new why time gave read takes =
     record {
+      made = takes.made;
       tried = takes.tried;
       deeds = takes.deeds;
       ending = takes.ending;
       events = takes.events;
       taken = takes.taken;
       takes = takes.takes;
-      does = does_then conf history (record { readings = time ∷ []; words = []; receipts = [] }) nothing [] takes.tried [] takes.deeds takes.ending
+      acts = takes.acts;
+      does = does_then conf history (record { clock = Read time ∷ []; words = []; link = [] }) (record { clock = takes.made; words = []; link = map Send takes.tried }) [] takes.deeds takes.ending
           (seen link clock words capture out lf (faults cf ef df kf of)) (seen link clock' words capture out lf (faults cf' ef df kf of)) after
           (does_read conf history link clock clock' words capture out lf (faults cf ef df kf of) (faults cf' ef df kf of) time gave) takes.does;
       is_set = takes.is_set;
@@ -75,19 +78,19 @@ read_takes conf history event link clock clock' words capture out lf cf cf' ef d
       ends = subst (λ (f : Faults). TakeEnds why takes.ending f after.faults) (λ i. faults (read i) ef df kf of) takes.ends;
     }
 
-pub takes_read : (conf : Conf) (history : History) (event : ℤ → Event) (member : Member) (link : Option LinkTold) (clock clock' : Option ClockTold) (words capture out : Option (List ℕ))
+pub takes_read : (conf : Conf) (history : History) (event : ℤ → Event) (member : Member) (link : Option (List LinkCall)) (clock clock' : Option (List ClockCall)) (words capture out : Option (List ℕ))
     (lf cf cf' ef df kf of : ℕ) (after : Seen) (old new : LifeEnd) (why : Why) (time : ℤ)
     → GaveReadings clock clock' (time ∷ []) → cf' ≡ cf
-    → Takes conf history (event time) nothing (seen link clock' words capture out lf (faults cf' ef df kf of)) after member old new why
+    → Takes conf history (event time) [] (seen link clock' words capture out lf (faults cf' ef df kf of)) after member old new why
     → TakesAt conf history event (seen link clock words capture out lf (faults cf ef df kf of)) after member old new why
 takes_read conf history event member link clock clock' words capture out lf cf cf' ef df kf of after old new why time gave read takes =
     inr (time, read_takes conf history (event time) link clock clock' words capture out lf cf cf' ef df kf of member after old new why time gave read takes)
 
 -- and leads to this
-pub takes_to : (conf : Conf) (history : History) (event : ℤ → Event) (member : Member) (link : Option LinkTold) (clock clock' : Option ClockTold) (words capture out : Option (List ℕ))
+pub takes_to : (conf : Conf) (history : History) (event : ℤ → Event) (member : Member) (link : Option (List LinkCall)) (clock clock' : Option (List ClockCall)) (words capture out : Option (List ℕ))
     (lf cf cf' ef df kf of : ℕ) (after : Seen) (old new : LifeEnd) (time : ℤ) (outcome : Outcome)
     → GaveReadings clock clock' (time ∷ []) → cf' ≡ cf
-    → Takes conf history (event time) nothing (seen link clock' words capture out lf (faults cf' ef df kf of)) after member old new Done
+    → Takes conf history (event time) [] (seen link clock' words capture out lf (faults cf' ef df kf of)) after member old new Done
     → outcome ≡ outcome_at conf history (event time)
     → TakesTo conf history event (seen link clock words capture out lf (faults cf ef df kf of)) after member old new outcome
 takes_to conf history event member link clock clock' words capture out lf cf cf' ef df kf of after old new time outcome gave read takes leads = record {
@@ -114,16 +117,15 @@ unfolding told
 arrival_reserved conf history now from bytes kept was = arrived_reserved now from bytes _ _ kept conf (told conf history) was
 
 -- nothing came
-unfoldable pub quiet_part : (conf : Conf) (from next : Need) (history : History) (member : Member) (link link' : Option LinkTold) (clock : Option ClockTold) (words capture out : Option (List ℕ))
+unfoldable pub quiet_part : (conf : Conf) (from next : Need) (history : History) (member : Member) (link link' : Option (List LinkCall)) (clock : Option (List ClockCall)) (words capture out : Option (List ℕ))
     (lf lf' : ℕ) (f : Faults) (kept : ℕ) (old : LifeEnd)
-    → conf_of member ≡ conf → StandsForHistory member history → GaveReceipts link link' (Quiet ∷ []) → ReceiptCounts Quiet lf lf'
-    → Weaves conf from history [] [] (Quiet ∷ []) [] next
+    → conf_of member ≡ conf → StandsForHistory member history → Grew link link' (Receive Quiet ∷ []) → ReceiptCounts Quiet lf lf'
+    → Weaves conf from history [] [] (Receive Quiet ∷ []) [] next
     → Part conf from next history (seen link clock words capture out lf f) (seen link' clock words capture out lf' f) member kept kept old (with_quiet old) Done
 quiet_part conf from next history member link link' clock words capture out lf lf' f kept old is_set stands gave counts weaves = record {
   runs = record {
-    given = record { readings = []; words = []; receipts = Quiet ∷ [] };
-    tried = [];
-    deeds = [];
+    given = record { clock = []; words = []; link = Receive Quiet ∷ [] };
+      deeds = [];
     ending = Whole;
     need = next;
     weaves = weaves;
@@ -141,16 +143,15 @@ quiet_part conf from next history member link link' clock words capture out lf l
 }
 
 -- the receive failed
-unfoldable pub lost_part : (conf : Conf) (from next : Need) (history : History) (member : Member) (link link' : Option LinkTold) (clock : Option ClockTold) (words capture out : Option (List ℕ))
+unfoldable pub lost_part : (conf : Conf) (from next : Need) (history : History) (member : Member) (link link' : Option (List LinkCall)) (clock : Option (List ClockCall)) (words capture out : Option (List ℕ))
     (lf lf' : ℕ) (f : Faults) (kept : ℕ) (old : LifeEnd)
-    → conf_of member ≡ conf → StandsForHistory member history → GaveReceipts link link' (Failed ∷ []) → ReceiptCounts Failed lf lf'
-    → Weaves conf from history [] [] (Failed ∷ []) [] next
+    → conf_of member ≡ conf → StandsForHistory member history → Grew link link' (Receive Failed ∷ []) → ReceiptCounts Failed lf lf'
+    → Weaves conf from history [] [] (Receive Failed ∷ []) [] next
     → Part conf from next history (seen link clock words capture out lf f) (seen link' clock words capture out lf' f) member kept kept old (with_lost old) Done
 lost_part conf from next history member link link' clock words capture out lf lf' f kept old is_set stands gave counts weaves = record {
   runs = record {
-    given = record { readings = []; words = []; receipts = Failed ∷ [] };
-    tried = [];
-    deeds = [];
+    given = record { clock = []; words = []; link = Receive Failed ∷ [] };
+      deeds = [];
     ending = Whole;
     need = next;
     weaves = weaves;
@@ -168,37 +169,38 @@ lost_part conf from next history member link link' clock words capture out lf lf
 }
 
 -- a datagram came, which is taken at the next reading, or the clock failed
-pub got_part : (conf : Conf) (start need next : Need) (history : History) (member : Member) (from : Addr) (bytes : List ℕ) (link link' : Option LinkTold) (clock : Option ClockTold) (words capture out : Option (List ℕ))
+pub got_part : (conf : Conf) (start need next : Need) (history : History) (member : Member) (from : Addr) (bytes : List ℕ) (link link' : Option (List LinkCall)) (clock : Option (List ClockCall)) (words capture out : Option (List ℕ))
     (lf lf' : ℕ) (f : Faults) (after : Seen) (kept : ℕ) (old new : LifeEnd) (why : Why)
-    → GaveReceipts link link' (Got from bytes ∷ []) → ReceiptCounts (Got from bytes) lf lf' → NeedsReading need
-    → Weaves conf start history [] [] (Got from bytes ∷ []) [] need
-    → ((time : ℤ) → Weaves conf start history (time ∷ []) [] (Got from bytes ∷ []) (Arrive time from bytes ∷ []) next) → ((time : ℤ) → IsBehind (Arrive time from bytes) next)
+    → Grew link link' (Receive (Got from bytes) ∷ []) → ReceiptCounts (Got from bytes) lf lf' → NeedsReading need
+    → Weaves conf start history [] [] (Receive (Got from bytes) ∷ []) [] need
+    → ((time : ℤ) (cs : List ClockCall) (ls : List LinkCall) (need : Need) → Weaves conf (Act (outcome_at conf history (Arrive time from bytes)) next) (Arrive time from bytes ∷ history) cs [] ls [] need
+    → Weaves conf start history (Read time ∷ cs) [] (Receive (Got from bytes) ∷ ls) (Arrive time from bytes ∷ []) need) → ((time : ℤ) → IsBehind (Arrive time from bytes) next)
     → TakesAt conf history (λ time. Arrive time from bytes) (seen link' clock words capture out lf' f) after member old new why
     → Part conf start next history (seen link clock words capture out lf f) after member kept kept old new why
 got_part conf start need next history member from bytes link link' clock words capture out lf lf' f after kept old new why gave counts reading waits weaves behind (inl stops) =
     let a = seen link clock words capture out lf f in
     let b = seen link' clock words capture out lf' f in
-    let got = Got from bytes ∷ [] in
-    let counted : Tallies conf history [] got [] old old = record { sent = refl; moved = refl; refused = refl; quiet = refl; lost = refl; turns = refl; why = refl } in
+    let got = Receive (Got from bytes) ∷ [] in
+    let counted : Tallies conf history [] got old old = record { sent = refl; moved = refl; refused = refl; quiet = refl; lost = refl; turns = refl; why = refl } in
     rw (stops.is_clock, stops.totals)
-    (part_stops conf start need next history (record { readings = []; words = []; receipts = got }) a after member kept kept old ClockFault
+    (part_stops conf start need next history (record { clock = []; words = []; link = got }) a after member kept kept old ClockFault
     stops.is_set stops.stands (λ is. cc is) counted waits
-    (does_then conf history (record { readings = []; words = []; receipts = got }) nothing [] [] [] [] Whole a b after
+    (does_then conf history (record { clock = []; words = []; link = got }) nothing [] [] Whole a b after
     (does_receive conf history link link' clock words capture out lf lf' f (Got from bytes) gave counts) stops.does)
     (tt, reading, stops.failed))
 got_part conf start need next history member from bytes link link' clock words capture out lf lf' f after kept old new why gave counts reading waits weaves behind (inr (time, takes)) =
     let a = seen link clock words capture out lf f in
     let b = seen link' clock words capture out lf' f in
-    let got = Got from bytes ∷ [] in
-    let counted : Tallies conf history [] got [] old old = record { sent = refl; moved = refl; refused = refl; quiet = refl; lost = refl; turns = refl; why = refl } in
-    part_takes conf start next history (Arrive time from bytes) (record { readings = []; words = []; receipts = got }) (time ∷ []) a b after member kept kept old new why
+    let got = Receive (Got from bytes) ∷ [] in
+    let counted : Tallies conf history [] got old old = record { sent = refl; moved = refl; refused = refl; quiet = refl; lost = refl; turns = refl; why = refl } in
+    part_takes conf start next history (Arrive time from bytes) (record { clock = []; words = []; link = got }) (Read time ∷ []) a b after member kept kept old new why
     (does_receive conf history link link' clock words capture out lf lf' f (Got from bytes) gave counts) counted refl takes (weaves time) (behind time) (arrival_reserved conf history time from bytes kept)
 
 -- what an arrival answers is what it led to, at the reading that it was taken at
-pub led_to : (result : Result Outcome Why) (old new : Running) (now : ℤ) (from : Addr) (bytes : List ℕ) (link link' : Option LinkTold) (clock clock' clock'' : Option ClockTold) (capture capture' out out' : Option (List ℕ)) (lf lf' cf cf' cf'' kf kf' of of' : ℕ)
+pub led_to : (result : Result Outcome Why) (old new : Running) (now : ℤ) (from : Addr) (bytes : List ℕ) (link link' : Option (List LinkCall)) (clock clock' clock'' : Option (List ClockCall)) (capture capture' out out' : Option (List ℕ)) (lf lf' cf cf' cf'' kf kf' of of' : ℕ)
     → GaveReadings clock clock' (now ∷ []) → cf' ≡ cf
     → ((words : Option (List ℕ)) (entropy disk : ℕ) (history : History) → StandsForHistory old.member history
-    → Takes (conf_of old.member) history (Arrive now from bytes) nothing (seen link clock' words capture out lf (faults cf' entropy disk kf of))
+    → Takes (conf_of old.member) history (Arrive now from bytes) [] (seen link clock' words capture out lf (faults cf' entropy disk kf of))
     (seen link' clock'' words capture' out' lf' (faults cf'' entropy disk kf' of')) new.member old.totals new.totals (why_of result))
     → IfOk result (IsTaken old new (Arrive now from bytes))
     → IfOk result (λ outcome. (words : Option (List ℕ)) (entropy disk : ℕ) (history : History) → StandsForHistory old.member history

@@ -4,10 +4,11 @@ use Rattle.std.specs.List.{count_by, sum_by}
 use Rattle.std.proofs.lemmas.List.{append-nil, append_cancel_right, map-append, reverse-reverse}
 use Rattle.std.proofs.lemmas.List.Sums.{sum_by-append}
 use Rattle.std.proofs.lemmas.Bool.Decides.{nat_tests}
+use Rattle.base_specs.specs.Told.{Grew}
 use Rattle.edge_traits.specs.declared.datagram.Addr.{Addr}
 use Rattle.edge_traits.specs.declared.link.Receipt.TheVariants.{Got, Quiet, Failed}
-use Rattle.edge_traits.specs.Clock.{ClockTold}
-use Rattle.edge_traits.specs.Link.{GaveReceipts, LinkTold, ReceiptCounts}
+use Rattle.edge_traits.specs.Clock.{ClockCall, Read}
+use Rattle.edge_traits.specs.Link.{LinkCall, Receive, ReceiptCounts}
 use Rattle.capture_fmt.specs.declared.event.Event.{Event}
 use Rattle.capture_fmt.specs.declared.event.Event.TheVariants.{Arrive}
 use Rattle.time_machine.specs.declared.conf.Conf.{Conf}
@@ -22,9 +23,9 @@ use Rattle.run_deeds.specs.declared.life_end.LifeEnd.{LifeEnd}
 use Rattle.run_deeds.specs.declared.life_end.Why.{Why}
 use Rattle.run_deeds.specs.declared.life_end.Why.TheVariants.{Done, ClockFault}
 use Rattle.run_deeds.specs.Counting.{with_lost, with_quiet}
-use Rattle.run_deeds.specs.Weaving.{Need, Call, Round, RoundReading, Weaves, none, round_gets, round_quiet, round_lost, round_arrives, behind_arrival, followed_by, round_of}
+use Rattle.run_deeds.specs.Weaving.{Act, Need, Call, Round, RoundReading, Weaves, none, round_gets, round_quiet, round_lost, round_arrives, behind_arrival, followed_by, round_of}
 use Rattle.run_deeds.specs.Deeds.{Deed, Take, Ending, Whole, NoRecord, NoLine, IsWhole, along, all_done, history_after}
-use Rattle.run_deeds.specs.Devices.{Faults, IsBehind, LifeEndsBy, Seen, faults, seen}
+use Rattle.run_deeds.specs.Devices.{Faults, IsBehind, LifeEndsBy, Seen, faults, nothing, seen}
 use Rattle.run_deeds.specs.Parts.{Part, Runs, Tallies}
 use Rattle.run_deeds.specs.Rounds.{RoundAnswers, is_moved, is_too_big, outcomes_in, round_result}
 use Rattle.run_deeds.proofs.Deeding.{along-append}
@@ -32,7 +33,7 @@ use Rattle.run_deeds.proofs.Composing.{runs_then}
 use Rattle.run_deeds.proofs.Doing.{does_receive, does_then}
 use Rattle.member_run.specs.declared.running.Running.{Running}
 use Rattle.member_run.specs.Running.{IsBegun, SendsNone, kept_of, member_of, totals_of}
-use Rattle.member_run.specs.Taking.{Takes, TakesAt, TakesTo, nothing}
+use Rattle.member_run.specs.Taking.{Takes, TakesAt, TakesTo}
 use Rattle.member_run.proofs.Ordered.{followed-reverse, history_of}
 use Rattle.member_run.proofs.Turning.{one_left, runs_none, taken_history, whole_given}
 use Rattle.member_run.proofs.Parting.{part_short, part_stops, runs_takes}
@@ -160,8 +161,8 @@ stepped_then conf from mid next history a b c m m' k0 k1 k2 old between new why 
 round_left : (k : ℕ) → round_of (suc k) ≡ Round (suc k)
 round_left k = ap (λ (b : Bool). if b then Call else Round (suc k)) (let more : (suc k == 0) ≡ false = grind (arith, nat_tests) in more)
 
-pub quiet_step : (conf : Conf) (k : ℕ) (history : History) (member : Member) (link link' : Option LinkTold) (clock : Option ClockTold) (words capture out : Option (List ℕ)) (lf lf' : ℕ) (f : Faults) (kept : ℕ) (old : LifeEnd)
-    → conf_of member ≡ conf → StandsForHistory member history → GaveReceipts link link' (Quiet ∷ []) → ReceiptCounts Quiet lf lf'
+pub quiet_step : (conf : Conf) (k : ℕ) (history : History) (member : Member) (link link' : Option (List LinkCall)) (clock : Option (List ClockCall)) (words capture out : Option (List ℕ)) (lf lf' : ℕ) (f : Faults) (kept : ℕ) (old : LifeEnd)
+    → conf_of member ≡ conf → StandsForHistory member history → Grew link link' (Receive Quiet ∷ []) → ReceiptCounts Quiet lf lf'
     → Stepped conf (Round (suc k)) Call history (seen link clock words capture out lf f) (seen link' clock words capture out lf' f) member kept kept old (with_quiet old) Done []
 unfolding quiet_part
 quiet_step conf k history member link link' clock words capture out lf lf' f kept old is_set stands gave counts = record {
@@ -169,8 +170,8 @@ quiet_step conf k history member link link' clock words capture out lf lf' f kep
   outs = λ is. refl;
 }
 
-pub lost_step : (conf : Conf) (k : ℕ) (history : History) (member : Member) (link link' : Option LinkTold) (clock : Option ClockTold) (words capture out : Option (List ℕ)) (lf lf' : ℕ) (f : Faults) (kept : ℕ) (old : LifeEnd)
-    → conf_of member ≡ conf → StandsForHistory member history → GaveReceipts link link' (Failed ∷ []) → ReceiptCounts Failed lf lf'
+pub lost_step : (conf : Conf) (k : ℕ) (history : History) (member : Member) (link link' : Option (List LinkCall)) (clock : Option (List ClockCall)) (words capture out : Option (List ℕ)) (lf lf' : ℕ) (f : Faults) (kept : ℕ) (old : LifeEnd)
+    → conf_of member ≡ conf → StandsForHistory member history → Grew link link' (Receive Failed ∷ []) → ReceiptCounts Failed lf lf'
     → Stepped conf (Round (suc k)) (round_of k) history (seen link clock words capture out lf f) (seen link' clock words capture out lf' f) member kept kept old (with_lost old) Done []
 unfolding lost_part
 lost_step conf k history member link link' clock words capture out lf lf' f kept old is_set stands gave counts = record {
@@ -179,7 +180,7 @@ lost_step conf k history member link link' clock words capture out lf lf' f kept
 }
 
 -- a datagram came
-got_tallies : (conf : Conf) (history : History) (from : Addr) (bytes : List ℕ) (end : LifeEnd) → Tallies conf history [] (Got from bytes ∷ []) [] end end
+got_tallies : (conf : Conf) (history : History) (from : Addr) (bytes : List ℕ) (end : LifeEnd) → Tallies conf history [] (Receive (Got from bytes) ∷ []) end end
 got_tallies conf history from bytes end = record { sent = refl; moved = refl; refused = refl; quiet = refl; lost = refl; turns = refl; why = refl }
 
 -- behind an arrival comes another receipt of the round, or another call
@@ -192,23 +193,24 @@ arrival_behind : (time : ℤ) (from : Addr) (bytes : List ℕ) (k : ℕ) (outcom
 arrival_behind time from bytes k outcome = arrive_behind time from bytes (is_some (offset_moved outcome)) (k == 0) k
 
 -- with which an arrival is taken, whichever call ends it
-got_runs : (conf : Conf) (k : ℕ) (history : History) (member : Member) (from : Addr) (bytes : List ℕ) (link link' : Option LinkTold) (clock : Option ClockTold) (words capture out : Option (List ℕ)) (lf lf' : ℕ) (f : Faults) (after : Seen) (kept : ℕ) (old new : LifeEnd) (why : Why) (time : ℤ)
-    → GaveReceipts link link' (Got from bytes ∷ []) → ReceiptCounts (Got from bytes) lf lf'
-    → (takes : Takes conf history (Arrive time from bytes) (record { readings = time ∷ []; words = []; receipts = [] }) (seen link' clock words capture out lf' f) after member old new why)
+got_runs : (conf : Conf) (k : ℕ) (history : History) (member : Member) (from : Addr) (bytes : List ℕ) (link link' : Option (List LinkCall)) (clock : Option (List ClockCall)) (words capture out : Option (List ℕ)) (lf lf' : ℕ) (f : Faults) (after : Seen) (kept : ℕ) (old new : LifeEnd) (why : Why) (time : ℤ)
+    → Grew link link' (Receive (Got from bytes) ∷ []) → ReceiptCounts (Got from bytes) lf lf'
+    → (takes : Takes conf history (Arrive time from bytes) (Read time ∷ []) (seen link' clock words capture out lf' f) after member old new why)
     → (next : Need) → behind_arrival k (outcome_at conf history (Arrive time from bytes)) ≡ next
     → Runs conf (Round (suc k)) next history (seen link clock words capture out lf f) after kept kept old new why
 got_runs conf k history member from bytes link link' clock words capture out lf lf' f after kept old new why time gave counts takes next behind =
-    let got = Got from bytes ∷ [] in
+    let got = Receive (Got from bytes) ∷ [] in
     let a = seen link clock words capture out lf f in
     let b = seen link' clock words capture out lf' f in
-    let P : Need → Type 0 = λ (n : Need). Weaves conf (Round (suc k)) history (time ∷ []) [] got (Arrive time from bytes ∷ []) n in
+    let outcome = outcome_at conf history (Arrive time from bytes) in
     let B : Need → Type 0 = λ (n : Need). IsBehind (Arrive time from bytes) n in
-    runs_takes conf (Round (suc k)) next history (Arrive time from bytes) (record { readings = []; words = []; receipts = got }) (time ∷ []) a b after member kept kept old new why
+    runs_takes conf (Round (suc k)) next history (Arrive time from bytes) (record { clock = []; words = []; link = got }) (Read time ∷ []) a b after member kept kept old new why
     (does_receive conf history link link' clock words capture out lf lf' f (Got from bytes) gave counts) (got_tallies conf history from bytes old) refl takes
-    (subst P behind (round_gets (round_arrives none))) (subst B behind (arrival_behind time from bytes k (outcome_at conf history (Arrive time from bytes)))) (λ is. arrival_reserved conf history time from bytes kept)
+    (λ cs ls need s. round_gets (round_arrives (subst (λ (n : Need). Weaves conf (Act outcome n) (Arrive time from bytes ∷ history) cs [] ls [] need) (sym behind) s)))
+    (subst B behind (arrival_behind time from bytes k outcome)) (λ is. arrival_reserved conf history time from bytes kept)
 
-pub got_step : (conf : Conf) (k : ℕ) (history : History) (member : Member) (from : Addr) (bytes : List ℕ) (link link' : Option LinkTold) (clock : Option ClockTold) (words capture out : Option (List ℕ)) (lf lf' : ℕ) (f : Faults) (after : Seen) (kept : ℕ) (old new : LifeEnd) (outcome : Outcome) (next : Need)
-    → GaveReceipts link link' (Got from bytes ∷ []) → ReceiptCounts (Got from bytes) lf lf'
+pub got_step : (conf : Conf) (k : ℕ) (history : History) (member : Member) (from : Addr) (bytes : List ℕ) (link link' : Option (List LinkCall)) (clock : Option (List ClockCall)) (words capture out : Option (List ℕ)) (lf lf' : ℕ) (f : Faults) (after : Seen) (kept : ℕ) (old new : LifeEnd) (outcome : Outcome) (next : Need)
+    → Grew link link' (Receive (Got from bytes) ∷ []) → ReceiptCounts (Got from bytes) lf lf'
     → TakesTo conf history (λ time. Arrive time from bytes) (seen link' clock words capture out lf' f) after member old new outcome
     → behind_arrival k outcome ≡ next
     → Stepped conf (Round (suc k)) next history (seen link clock words capture out lf f) after member kept kept old new Done (outcome ∷ [])
@@ -229,20 +231,20 @@ got_step conf k history member from bytes link link' clock words capture out lf 
     }
 
 -- and the run ends
-pub fault_step : (conf : Conf) (k : ℕ) (history : History) (member : Member) (from : Addr) (bytes : List ℕ) (link link' : Option LinkTold) (clock : Option ClockTold) (words capture out : Option (List ℕ)) (lf lf' : ℕ) (f : Faults) (after : Seen) (kept : ℕ) (old new : LifeEnd) (why : Why) → why ≢ Done
-    → GaveReceipts link link' (Got from bytes ∷ []) → ReceiptCounts (Got from bytes) lf lf'
+pub fault_step : (conf : Conf) (k : ℕ) (history : History) (member : Member) (from : Addr) (bytes : List ℕ) (link link' : Option (List LinkCall)) (clock : Option (List ClockCall)) (words capture out : Option (List ℕ)) (lf lf' : ℕ) (f : Faults) (after : Seen) (kept : ℕ) (old new : LifeEnd) (why : Why) → why ≢ Done
+    → Grew link link' (Receive (Got from bytes) ∷ []) → ReceiptCounts (Got from bytes) lf lf'
     → TakesAt conf history (λ time. Arrive time from bytes) (seen link' clock words capture out lf' f) after member old new why
     → Stepped conf (Round (suc k)) Call history (seen link clock words capture out lf f) after member kept kept old new why []
 unfolding got_runs
 fault_step conf k history member from bytes link link' clock words capture out lf lf' f after kept old new why not gave counts (inl stops) =
-    let got = Got from bytes ∷ [] in
+    let got = Receive (Got from bytes) ∷ [] in
     let a = seen link clock words capture out lf f in
     let b = seen link' clock words capture out lf' f in
     record {
       part = rw (stops.is_clock, stops.totals)
-          (part_stops conf (Round (suc k)) (RoundReading k from bytes) Call history (record { readings = []; words = []; receipts = got }) a after member kept kept old ClockFault
+          (part_stops conf (Round (suc k)) (RoundReading k from bytes) Call history (record { clock = []; words = []; link = got }) a after member kept kept old ClockFault
           stops.is_set stops.stands (λ is. let bad : ⊥ = cc in bad) (got_tallies conf history from bytes old) (round_gets none)
-          (does_then conf history (record { readings = []; words = []; receipts = got }) nothing [] [] [] [] Whole a b after
+          (does_then conf history (record { clock = []; words = []; link = got }) nothing [] [] Whole a b after
           (does_receive conf history link link' clock words capture out lf lf' f (Got from bytes) gave counts) stops.does)
           (tt, tt, stops.failed));
       outs = λ is. absurd (not is);
@@ -304,7 +306,7 @@ pub answers_err : (conf : Conf) (history : History) (before now : Seen) (member 
 answers_err conf history before now member kept old new came why step = record { part = step.part; answer = tt }
 
 -- a round between two receipts
-pub record Rounds (taken : ℕ) (old new : Running) (result : ℕ) (link link' : Option LinkTold) (clock clock' : Option ClockTold) (capture capture' out out' : Option (List ℕ)) (lf lf' cf cf' kf kf' of of' : ℕ) : Type 0 where
+pub record Rounds (taken : ℕ) (old new : Running) (result : ℕ) (link link' : Option (List LinkCall)) (clock clock' : Option (List ClockCall)) (capture capture' out out' : Option (List ℕ)) (lf lf' cf cf' kf kf' of of' : ℕ) : Type 0 where
   pub left : ℕ
   pub sum : taken + left ≡ 16
   pub begun : IsBegun new
@@ -318,7 +320,7 @@ sends_same running = record { keeper = refl; last = refl; greatest = refl }
 pub sends_then : (old mid new : Running) → SendsNone old mid → SendsNone mid new → SendsNone old new
 sends_then old mid new first next = record { keeper = next.keeper ∙ first.keeper; last = next.last ∙ first.last; greatest = next.greatest ∙ first.greatest }
 
-pub rounds_none : (running : Running) (link : Option LinkTold) (clock : Option ClockTold) (capture out : Option (List ℕ)) (lf cf kf of : ℕ) → IsBegun running
+pub rounds_none : (running : Running) (link : Option (List LinkCall)) (clock : Option (List ClockCall)) (capture out : Option (List ℕ)) (lf cf kf of : ℕ) → IsBegun running
     → Rounds 0 running running 1 link link clock clock capture capture out out lf lf cf cf kf kf of of
 rounds_none running link clock capture out lf cf kf of begun = record {
   left = 16;
@@ -328,7 +330,7 @@ rounds_none running link clock capture out lf cf kf of begun = record {
   round = λ words entropy disk history stands. rounded_none history running (seen link clock words capture out lf (faults cf entropy disk kf of)) stands;
 }
 
-module _ (done : ℕ) (old mid : Running) (result : ℕ) (l0 l1 l2 : Option LinkTold) (c0 c1 : Option ClockTold) (k0 k1 o0 o1 : Option (List ℕ)) (lf0 lf1 lf2 cf0 cf1 kf0 kf1 of0 of1 : ℕ)
+module _ (done : ℕ) (old mid : Running) (result : ℕ) (l0 l1 l2 : Option (List LinkCall)) (c0 c1 : Option (List ClockCall)) (k0 k1 o0 o1 : Option (List ℕ)) (lf0 lf1 lf2 cf0 cf1 kf0 kf1 of0 of1 : ℕ)
     (below : done < 16) (was : Rounds done old mid result l0 l1 c0 c1 k0 k1 o0 o1 lf0 lf1 cf0 cf1 kf0 kf1 of0 of1) where
   -- what was said of the receipts before
   earlier : (k : ℕ) → was.left ≡ suc k → (words : Option (List ℕ)) (entropy disk : ℕ) (history : History) → StandsForHistory (member_of old) history
@@ -338,8 +340,8 @@ module _ (done : ℕ) (old mid : Running) (result : ℕ) (l0 l1 l2 : Option Link
       subst P is (was.round words entropy disk history stands)
 
   -- an arrival that was not accepted
-  pub rounds_got : (new : Running) (result' : ℕ) (from : Addr) (bytes : List ℕ) (outcome : Outcome) (l3 : Option LinkTold) (c2 : Option ClockTold) (k2 o2 : Option (List ℕ)) (lf3 cf2 kf2 of2 : ℕ)
-      → GaveReceipts l1 l2 (Got from bytes ∷ []) → ReceiptCounts (Got from bytes) lf1 lf2
+  pub rounds_got : (new : Running) (result' : ℕ) (from : Addr) (bytes : List ℕ) (outcome : Outcome) (l3 : Option (List LinkCall)) (c2 : Option (List ClockCall)) (k2 o2 : Option (List ℕ)) (lf3 cf2 kf2 of2 : ℕ)
+      → Grew l1 l2 (Receive (Got from bytes) ∷ []) → ReceiptCounts (Got from bytes) lf1 lf2
       → ((words : Option (List ℕ)) (entropy disk : ℕ) (history : History) → StandsForHistory (member_of mid) history
       → TakesTo (conf_of (member_of mid)) history (λ time. Arrive time from bytes) (seen l2 c1 words k1 o1 lf2 (faults cf1 entropy disk kf1 of1))
       (seen l3 c2 words k2 o2 lf3 (faults cf2 entropy disk kf2 of2)) (member_of new) (totals_of mid) (totals_of new) outcome)
@@ -368,7 +370,7 @@ module _ (done : ℕ) (old mid : Running) (result : ℕ) (l0 l1 l2 : Option Link
       }
 
   -- a receive that failed
-  pub rounds_lost : GaveReceipts l1 l2 (Failed ∷ []) → ReceiptCounts Failed lf1 lf2
+  pub rounds_lost : Grew l1 l2 (Receive Failed ∷ []) → ReceiptCounts Failed lf1 lf2
       → Rounds (done + 1) old (record mid { totals = with_lost mid.totals }) result l0 l2 c0 c1 k0 k1 o0 o1 lf0 lf2 cf0 cf1 kf0 kf1 of0 of1
   rounds_lost gave counts =
       let one = one_left 16 done was.left below was.sum in
@@ -389,8 +391,8 @@ module _ (done : ℕ) (old mid : Running) (result : ℕ) (l0 l1 l2 : Option Link
       }
 
   -- an accepted arrival ends the round
-  pub round_moved : (member : Member) (end : LifeEnd) (from : Addr) (bytes : List ℕ) (outcome : Outcome) (l3 : Option LinkTold) (c2 : Option ClockTold) (k2 o2 : Option (List ℕ)) (lf3 cf2 kf2 of2 : ℕ)
-      → GaveReceipts l1 l2 (Got from bytes ∷ []) → ReceiptCounts (Got from bytes) lf1 lf2
+  pub round_moved : (member : Member) (end : LifeEnd) (from : Addr) (bytes : List ℕ) (outcome : Outcome) (l3 : Option (List LinkCall)) (c2 : Option (List ClockCall)) (k2 o2 : Option (List ℕ)) (lf3 cf2 kf2 of2 : ℕ)
+      → Grew l1 l2 (Receive (Got from bytes) ∷ []) → ReceiptCounts (Got from bytes) lf1 lf2
       → ((words : Option (List ℕ)) (entropy disk : ℕ) (history : History) → StandsForHistory (member_of mid) history
       → TakesTo (conf_of (member_of mid)) history (λ time. Arrive time from bytes) (seen l2 c1 words k1 o1 lf2 (faults cf1 entropy disk kf1 of1))
       (seen l3 c2 words k2 o2 lf3 (faults cf2 entropy disk kf2 of2)) member (totals_of mid) end outcome)
@@ -411,7 +413,7 @@ module _ (done : ℕ) (old mid : Running) (result : ℕ) (l0 l1 l2 : Option Link
       (results_moved before.came outcome result before.results moved)
 
   -- and so does a quiet receipt
-  pub round_quiet_at : GaveReceipts l1 l2 (Quiet ∷ []) → ReceiptCounts Quiet lf1 lf2 → (words : Option (List ℕ)) (entropy disk : ℕ) (history : History) → StandsForHistory (member_of old) history
+  pub round_quiet_at : Grew l1 l2 (Receive Quiet ∷ []) → ReceiptCounts Quiet lf1 lf2 → (words : Option (List ℕ)) (entropy disk : ℕ) (history : History) → StandsForHistory (member_of old) history
       → RoundAnswers (conf_of (member_of old)) history (seen l0 c0 words k0 o0 lf0 (faults cf0 entropy disk kf0 of0)) (seen l2 c1 words k1 o1 lf2 (faults cf1 entropy disk kf1 of1))
       (member_of mid) (kept_of old) (totals_of old) (with_quiet (totals_of mid)) (Ok result)
   round_quiet_at gave counts words entropy disk history stands =
@@ -424,8 +426,8 @@ module _ (done : ℕ) (old mid : Running) (result : ℕ) (l0 l1 l2 : Option Link
       (rw append-nil before.results.is)
 
   -- an arrival whose taking ends the run
-  pub round_fault : (member : Member) (end : LifeEnd) (why : Why) (from : Addr) (bytes : List ℕ) (l3 : Option LinkTold) (c2 : Option ClockTold) (k2 o2 : Option (List ℕ)) (lf3 cf2 kf2 of2 : ℕ) → why ≢ Done
-      → GaveReceipts l1 l2 (Got from bytes ∷ []) → ReceiptCounts (Got from bytes) lf1 lf2
+  pub round_fault : (member : Member) (end : LifeEnd) (why : Why) (from : Addr) (bytes : List ℕ) (l3 : Option (List LinkCall)) (c2 : Option (List ClockCall)) (k2 o2 : Option (List ℕ)) (lf3 cf2 kf2 of2 : ℕ) → why ≢ Done
+      → Grew l1 l2 (Receive (Got from bytes) ∷ []) → ReceiptCounts (Got from bytes) lf1 lf2
       → ((words : Option (List ℕ)) (entropy disk : ℕ) (history : History) → StandsForHistory (member_of mid) history
       → TakesAt (conf_of (member_of mid)) history (λ time. Arrive time from bytes) (seen l2 c1 words k1 o1 lf2 (faults cf1 entropy disk kf1 of1))
       (seen l3 c2 words k2 o2 lf3 (faults cf2 entropy disk kf2 of2)) member (totals_of mid) end why)
@@ -443,7 +445,7 @@ module _ (done : ℕ) (old mid : Running) (result : ℕ) (l0 l1 l2 : Option Link
       (seen l3 c2 words k2 o2 lf3 (faults cf2 entropy disk kf2 of2)) (kept_of old) (totals_of mid) end why not gave counts (takes words entropy disk later stood)))
 
 -- all 16 receipts were taken
-pub round_over : (done : ℕ) (old new : Running) (result : ℕ) (l0 l1 : Option LinkTold) (c0 c1 : Option ClockTold) (k0 k1 o0 o1 : Option (List ℕ)) (lf0 lf1 cf0 cf1 kf0 kf1 of0 of1 : ℕ) → done ≡ 16
+pub round_over : (done : ℕ) (old new : Running) (result : ℕ) (l0 l1 : Option (List LinkCall)) (c0 c1 : Option (List ClockCall)) (k0 k1 o0 o1 : Option (List ℕ)) (lf0 lf1 cf0 cf1 kf0 kf1 of0 of1 : ℕ) → done ≡ 16
     → Rounds done old new result l0 l1 c0 c1 k0 k1 o0 o1 lf0 lf1 cf0 cf1 kf0 kf1 of0 of1
     → (words : Option (List ℕ)) (entropy disk : ℕ) (history : History) → StandsForHistory (member_of old) history
     → RoundAnswers (conf_of (member_of old)) history (seen l0 c0 words k0 o0 lf0 (faults cf0 entropy disk kf0 of0)) (seen l1 c1 words k1 o1 lf1 (faults cf1 entropy disk kf1 of1))

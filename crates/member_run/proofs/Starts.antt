@@ -1,8 +1,8 @@
 -- The first part of a run.
 use Rattle.std.proofs.Common.{◌≡◌, ◌≢◌, ◌<◌, ◌+◌, ◌^◌, ℕ, ℤ, List, [], ◌∷◌, Option, Some, None, IfSome, IsSome, refl, sym, ◌∙◌, ap, subst, arith}
 use Rattle.base_specs.specs.Counts.{Fails}
-use Rattle.edge_traits.specs.Clock.{ClockTold, GaveReadings}
-use Rattle.edge_traits.specs.Link.{LinkTold}
+use Rattle.edge_traits.specs.Clock.{ClockCall, GaveReadings, Read}
+use Rattle.edge_traits.specs.Link.{LinkCall}
 use Rattle.capture_fmt.specs.declared.event.Event.TheVariants.{Life}
 use Rattle.slot_disk.specs.Told.{DiskTold}
 use Rattle.stamp_keep.specs.Image.{mark_of_image}
@@ -19,7 +19,7 @@ use Rattle.run_deeds.specs.declared.life_end.Why.{Why}
 use Rattle.run_deeds.specs.declared.life_end.Why.TheVariants.{Done, DiskFault, BadVersion, StampsSpent, ClockFault, EntropyFault, SinkFault}
 use Rattle.run_deeds.specs.Counting.{ended}
 use Rattle.run_deeds.specs.Deeds.{all_done, history_after}
-use Rattle.run_deeds.specs.Devices.{Seen, faults, seen}
+use Rattle.run_deeds.specs.Devices.{Seen, faults, nothing, seen}
 use Rattle.run_deeds.specs.Marks.{Reserved, last_count}
 use Rattle.run_deeds.specs.Weaving.{Need, Start, Stood, life, none}
 use Rattle.run_deeds.proofs.Doing.{does_read}
@@ -28,7 +28,7 @@ use Rattle.member_run.specs.declared.running.Running.{Running}
 use Rattle.member_run.specs.Reserving.{BlamedBy}
 use Rattle.member_run.specs.Running.{IsGoing, kept_of, member_of, totals_of}
 use Rattle.member_run.specs.Starting.{HasBegun, HasStopped}
-use Rattle.member_run.specs.Taking.{Takes, nothing}
+use Rattle.member_run.specs.Taking.{Takes}
 use Rattle.member_run.proofs.Counts.{words_step}
 use Rattle.member_run.proofs.Parting.{runs_takes, take_whole, whole_history}
 
@@ -44,7 +44,7 @@ some_mark None = (0, tt)
 some_mark (Some c) = (mark_of_image c, refl)
 
 -- no keeper was loaded
-pub no_keeper : (conf : Conf) (next : Need) (entry : DiskTold) (link : Option LinkTold) (clock : Option ClockTold) (words capture out : Option (List ℕ))
+pub no_keeper : (conf : Conf) (next : Need) (entry : DiskTold) (link : Option (List LinkCall)) (clock : Option (List ClockCall)) (words capture out : Option (List ℕ))
     (lf cf ef df df' kf of : ℕ) (why : Why) → BlamedBy why df df' → why ≢ StampsSpent
     → HasStopped conf next entry (seen link clock words capture out lf (faults cf ef df kf of)) (seen link clock words capture out lf (faults cf ef df' kf of)) why
 no_keeper conf next entry link clock words capture out lf cf ef df df' kf of DiskFault blamed other =
@@ -74,7 +74,7 @@ no_keeper conf next entry link clock words capture out lf cf ef df df' kf of Ent
 no_keeper conf next entry link clock words capture out lf cf ef df df' kf of SinkFault blamed other = absurd blamed
 
 -- the clock failed
-pub no_life : (conf : Conf) (next : Need) (entry : DiskTold) (mark : ℕ) (link : Option LinkTold) (clock clock' : Option ClockTold) (words capture out : Option (List ℕ))
+pub no_life : (conf : Conf) (next : Need) (entry : DiskTold) (mark : ℕ) (link : Option (List LinkCall)) (clock clock' : Option (List ClockCall)) (words capture out : Option (List ℕ))
     (lf cf cf' ef df df' kf of : ℕ) (why : Why) → IfSome entry.content (λ c. mark ≡ mark_of_image c) → why ≡ ClockFault → clock' ≡ clock → Fails cf cf' → df' ≡ df
     → HasStopped conf next entry (seen link clock words capture out lf (faults cf ef df kf of)) (seen link clock' words capture out lf (faults cf' ef df' kf of)) why
 no_life conf next entry mark link clock clock' words capture out lf cf cf' ef df df' kf of why stood_for is same fails disk =
@@ -95,11 +95,11 @@ unfolding told
 life_reserved conf now mark = record { blocks = omega arith; within = omega arith; needed = omega arith }
 
 -- it could not be taken whole
-pub life_cut : (set conf : Conf) (next : Need) (entry : DiskTold) (now : ℤ) (mark : ℕ) (link : Option LinkTold) (clock clock' : Option ClockTold) (words capture out : Option (List ℕ))
+pub life_cut : (set conf : Conf) (next : Need) (entry : DiskTold) (now : ℤ) (mark : ℕ) (link : Option (List LinkCall)) (clock clock' : Option (List ClockCall)) (words capture out : Option (List ℕ))
     (lf cf cf' ef df df' kf of : ℕ) (after : Seen) (member : Member) (new : LifeEnd) (why : Why)
     → set ≡ conf → IfSome entry.content (λ c. mark ≡ mark_of_image c) → GaveReadings clock clock' (now ∷ []) → cf' ≡ cf → df' ≡ df → why ≡ SinkFault
     → new ≡ ended Done
-    → Takes set [] (Life now mark) nothing (seen link clock' words capture out lf (faults cf' ef df' kf of)) after member (ended Done) new why
+    → Takes set [] (Life now mark) [] (seen link clock' words capture out lf (faults cf' ef df' kf of)) after member (ended Done) new why
     → HasStopped conf next entry (seen link clock words capture out lf (faults cf ef df kf of)) after why
 life_cut set conf next entry now mark link clock clock' words capture out lf cf cf' ef df df' kf of after member new why is_set stood_for gave read disk is uncounted takes =
     let stood : Stood = record { mark = mark } in
@@ -108,17 +108,17 @@ life_cut set conf next entry now mark link clock clock' words capture out lf cf 
     record {
       stood = stood;
       stood_for = stood_for;
-      runs = runs_takes conf (Start stood next) next [] (Life now mark) (record { readings = now ∷ []; words = []; receipts = [] }) []
+      runs = runs_takes conf (Start stood next) next [] (Life now mark) (record { clock = Read now ∷ []; words = []; link = [] }) []
           (seen link clock words capture out lf (faults cf ef df kf of)) (seen link clock' words capture out lf (faults cf' ef df' kf of)) after member mark mark (ended Done) (ended Done) why
           (does_read conf [] link clock clock' words capture out lf (faults cf ef df kf of) (faults cf' ef df' kf of) now gave)
-          (tallies_none conf [] (ended Done)) (λ i. faults (read i) ef (disk i) kf of) same (life none) tt (λ done. absurd (no_done done));
+          (tallies_none conf [] (ended Done)) (λ i. faults (read i) ef (disk i) kf of) same (λ cs ls need s. life s) tt (λ done. absurd (no_done done));
     }
 
 -- it was taken
-pub life_taken : (set conf : Conf) (next : Need) (entry : DiskTold) (now : ℤ) (mark : ℕ) (link : Option LinkTold) (clock clock' : Option ClockTold) (words capture out : Option (List ℕ))
+pub life_taken : (set conf : Conf) (next : Need) (entry : DiskTold) (now : ℤ) (mark : ℕ) (link : Option (List LinkCall)) (clock clock' : Option (List ClockCall)) (words capture out : Option (List ℕ))
     (lf cf cf' ef df df' kf of : ℕ) (after : Seen) (running : Running)
     → set ≡ conf → IfSome entry.content (λ c. mark ≡ mark_of_image c) → kept_of running ≡ mark → GaveReadings clock clock' (now ∷ []) → cf' ≡ cf → df' ≡ df
-    → Takes set [] (Life now mark) nothing (seen link clock' words capture out lf (faults cf' ef df' kf of)) after (member_of running) (ended Done) (totals_of running) Done
+    → Takes set [] (Life now mark) [] (seen link clock' words capture out lf (faults cf' ef df' kf of)) after (member_of running) (ended Done) (totals_of running) Done
     → HasBegun conf next entry (seen link clock words capture out lf (faults cf ef df kf of)) after running
 life_taken set conf next entry now mark link clock clock' words capture out lf cf cf' ef df df' kf of after running is_set stood_for kept gave read disk taken =
     let takes = rw is_set at taken in
@@ -130,10 +130,10 @@ life_taken set conf next entry now mark link clock clock' words capture out lf c
       stood_for = stood_for;
       kept = kept;
       part = record {
-        runs = runs_takes conf (Start stood next) next [] (Life now mark) (record { readings = now ∷ []; words = []; receipts = [] }) []
+        runs = runs_takes conf (Start stood next) next [] (Life now mark) (record { clock = Read now ∷ []; words = []; link = [] }) []
             (seen link clock words capture out lf (faults cf ef df kf of)) (seen link clock' words capture out lf (faults cf' ef df' kf of)) after (member_of running) mark mark (ended Done) (totals_of running) Done
             (does_read conf [] link clock clock' words capture out lf (faults cf ef df kf of) (faults cf' ef df' kf of) now gave)
-            (tallies_none conf [] (ended Done)) (λ i. faults (read i) ef (disk i) kf of) takes (life none) tt (λ is was. life_reserved conf now mark);
+            (tallies_none conf [] (ended Done)) (λ i. faults (read i) ef (disk i) kf of) takes (λ cs ls need s. life s) tt (λ is was. life_reserved conf now mark);
         is_set = takes.is_set;
         stands = takes.stands;
       };

@@ -4,12 +4,15 @@ use Rattle.std.proofs.lemmas.List.{append-nil}
 use Rattle.base_specs.specs.Counts.{FailsTimes}
 use Rattle.base_specs.specs.Told.{Added}
 use Rattle.base_specs.proofs.Counting.{fails_none}
-use Rattle.base_specs.proofs.Telling.{added_none}
+use Rattle.base_specs.proofs.Telling.{added_none, grew_none}
 use Rattle.edge_traits.specs.declared.link.Tried.{Tried}
 use Rattle.edge_traits.specs.declared.clock.Move.{Move}
-use Rattle.edge_traits.specs.Clock.{ClockTold}
-use Rattle.edge_traits.specs.Link.{LinkTold, failed_sends}
-use Rattle.edge_traits.proofs.Links.{exchanged_none}
+use Rattle.std.specs.List.{count_by}
+use Rattle.edge_traits.specs.Clock.{ClockCall, Correct, moves_among}
+use Rattle.edge_traits.specs.Link.{LinkCall, Send, failed_calls, receipts_among, sends_among}
+use Rattle.edge_traits.specs.declared.link.Receipt.{Receipt}
+use Rattle.edge_traits.proofs.Clocks.{moves_among-moves}
+use Rattle.edge_traits.proofs.Links.{receipts_among-sends, sends_among-sends}
 use Rattle.capture_fmt.specs.declared.event.Event.{Event}
 use Rattle.capture_fmt.specs.Event.{EventFits}
 use Rattle.capture_fmt.specs.Record.{event_bytes}
@@ -25,30 +28,33 @@ use Rattle.run_deeds.specs.declared.life_end.LifeEnd.{LifeEnd}
 use Rattle.run_deeds.specs.declared.life_end.Why.{Why}
 use Rattle.run_deeds.specs.declared.life_end.Why.TheVariants.{Done, DiskFault, BadVersion, StampsSpent, ClockFault, EntropyFault, SinkFault}
 use Rattle.run_deeds.specs.Counting.{counted, more}
-use Rattle.run_deeds.specs.Deeds.{Take, Whole, NoRecord, NoLine, along, moves_in, posted_in, reasons_by, ticks_by}
-use Rattle.run_deeds.specs.Devices.{faults, posted_of, seen}
-use Rattle.run_deeds.specs.Parts.{Tallies}
-use Rattle.run_deeds.proofs.Doing.{made_moves, timed_none, tried_sends}
+use Rattle.run_deeds.specs.Deeds.{Take, Whole, NoRecord, NoLine, along, moves_in, posted_in, reasons_by}
+use Rattle.run_deeds.specs.Devices.{faults, seen}
+use Rattle.run_deeds.specs.Parts.{Tallies, is_quiet}
+use Rattle.run_deeds.specs.Weaving.{posted_of, ticks_by}
 use Rattle.run_deeds.proofs.Stopping.{tallies_none}
 use Rattle.member_run.specs.Asking.{WrittenBy}
-use Rattle.member_run.specs.Taking.{Acts, Takes, nothing}
+use Rattle.member_run.specs.Taking.{Acts, Takes}
 
 -- the record could not be written
-pub no_record : (conf : Conf) (history : History) (event : Event) (member : Member) (link : Option LinkTold) (clock : Option ClockTold) (words capture capture' out : Option (List ℕ))
+pub no_record : (conf : Conf) (history : History) (event : Event) (member : Member) (link : Option (List LinkCall)) (clock : Option (List ClockCall)) (words capture capture' out : Option (List ℕ))
     (link_faults cf ef df kf kf' of : ℕ) (end : LifeEnd) → conf_of member ≡ conf → StandsForHistory member history → EventFits event
     → WrittenBy SinkFault (event_bytes event) capture capture' kf kf'
-    → Takes conf history event nothing (seen link clock words capture out link_faults (faults cf ef df kf of)) (seen link clock words capture' out link_faults (faults cf ef df kf' of)) member end end SinkFault
+    → Takes conf history event [] (seen link clock words capture out link_faults (faults cf ef df kf of)) (seen link clock words capture' out link_faults (faults cf ef df kf' of)) member end end SinkFault
 no_record conf history event member link clock words capture capture' out link_faults cf ef df kf kf' of end is_set stands fits (front, added, fails) = record {
+  made = [];
   tried = [];
   deeds = [];
   ending = NoRecord event front;
   events = refl;
   taken = [];
   takes = refl;
+  acts = (refl, refl);
   does = record {
-    link = exchanged_none link;
+    link = grew_none link;
     requests = refl;
-    clock = timed_none clock;
+    clock = grew_none clock;
+    moves = refl;
     words = added_none words;
     fit = (fits, tt);
     has_line = tt;
@@ -66,10 +72,10 @@ no_record conf history event member link clock words capture capture' out link_f
 
 -- what was counted of an event
 tallies_one : (conf : Conf) (history : History) (event : Event) (outcome : Outcome) (tried : List Tried) (end mid new : LifeEnd)
-    → outcome ≡ outcome_at conf history event → mid ≡ counted event outcome end → new ≡ record mid { lost = more mid.lost (failed_sends tried) }
-    → Tallies conf history (Take event ∷ []) [] tried end new
+    → outcome ≡ outcome_at conf history event → mid ≡ counted event outcome end → new ≡ record mid { lost = more mid.lost (failed_calls (map Send tried)) }
+    → Tallies conf history (Take event ∷ []) (map Send tried) end new
 tallies_one conf history event outcome tried end mid new leads was is =
-    let lost : failed_sends tried ≡ 0 + failed_sends tried = omega arith in
+    let quiet : 0 ≡ count_by is_quiet (receipts_among (map Send tried)) = ap (λ (l : List Receipt). count_by is_quiet l) (sym (receipts_among-sends tried)) in
     let after = outcome_at conf history event in
     record {
       sent = ap (λ (e : LifeEnd). e.sent) is ∙ ap (λ (e : LifeEnd). e.sent) was ∙ ap (λ (o : Outcome). more end.sent (length (posted_by o))) leads
@@ -78,8 +84,8 @@ tallies_one conf history event outcome tried end mid new leads was is =
           ∙ ap (λ (l : List Move). more end.moved (length l)) (sym (append-nil (moves_by after)));
       refused = ap (λ (e : LifeEnd). e.refused) is ∙ ap (λ (e : LifeEnd). e.refused) was ∙ ap (λ (o : Outcome). more end.refused (length (reasons_by o))) leads
           ∙ ap (λ (l : List Reason). more end.refused (length l)) (sym (append-nil (reasons_by after)));
-      quiet = ap (λ (e : LifeEnd). e.quiet) is ∙ ap (λ (e : LifeEnd). e.quiet) was;
-      lost = ap (λ (e : LifeEnd). e.lost) is ∙ ap (λ (e : LifeEnd). more e.lost (failed_sends tried)) was ∙ ap (more end.lost) lost;
+      quiet = ap (λ (e : LifeEnd). e.quiet) is ∙ ap (λ (e : LifeEnd). e.quiet) was ∙ ap (more end.quiet) quiet;
+      lost = ap (λ (e : LifeEnd). e.lost) is ∙ ap (λ (e : LifeEnd). more e.lost (failed_calls (map Send tried))) was;
       turns = ap (λ (e : LifeEnd). e.turns) is ∙ ap (λ (e : LifeEnd). e.turns) was
           ∙ ap (λ (l : List Event). more end.turns (length l)) (sym (append-nil (ticks_by event)));
       why = ap (λ (e : LifeEnd). e.why) is ∙ ap (λ (e : LifeEnd). e.why) was;
@@ -87,46 +93,45 @@ tallies_one conf history event outcome tried end mid new leads was is =
 
 -- the requests and the corrections of an event that was done about, whole or but for its line
 requests_one : (conf : Conf) (history : History) (event : Event) (outcome : Outcome) (tried : List Tried) → outcome ≡ outcome_at conf history event
-    → map posted_of tried ≡ posted_by outcome → map posted_of tried ≡ along (posted_in conf) history (Take event ∷ [])
+    → map posted_of tried ≡ posted_by outcome → map posted_of (sends_among (map Send tried)) ≡ along (posted_in conf) history (Take event ∷ [])
 requests_one conf history event outcome tried leads are =
-    are ∙ ap posted_by leads ∙ sym (append-nil (posted_by (outcome_at conf history event)))
+    ap (map posted_of) (sends_among-sends tried) ∙ are ∙ ap posted_by leads ∙ sym (append-nil (posted_by (outcome_at conf history event)))
 
 moves_one : (conf : Conf) (history : History) (event : Event) (outcome : Outcome) → outcome ≡ outcome_at conf history event
-    → moves_by outcome ≡ along (moves_in conf) history (Take event ∷ [])
-moves_one conf history event outcome leads = ap moves_by leads ∙ sym (append-nil (moves_by (outcome_at conf history event)))
-
-lost_one : (tried : List Tried) (before now : ℕ) → FailsTimes (failed_sends tried) before now → FailsTimes (0 + failed_sends tried) before now
-lost_one tried before now fails =
-    let same : failed_sends tried ≡ 0 + failed_sends tried = omega arith in
-    subst (λ (n : ℕ). FailsTimes n before now) same fails
+    → moves_among (map Correct (moves_by outcome)) ≡ along (moves_in conf) history (Take event ∷ [])
+moves_one conf history event outcome leads =
+    moves_among-moves (moves_by outcome) ∙ ap moves_by leads ∙ sym (append-nil (moves_by (outcome_at conf history event)))
 
 -- The record was written, the member stepped, and what the outcome says was done; the line was written, or a front of it.
 pub takes_all : (conf : Conf) (history : History) (event : Event) (outcome : Outcome) (member : Member)
-    (link link' : Option LinkTold) (clock clock' : Option ClockTold) (words capture capture' out out' : Option (List ℕ))
+    (link link' : Option (List LinkCall)) (clock clock' : Option (List ClockCall)) (words capture capture' out out' : Option (List ℕ))
     (lf lf' cf ef df kf kf' of of' : ℕ) (end mid new : LifeEnd) (why : Why)
     → conf_of member ≡ conf → StandsForHistory member (event ∷ history) → EventFits event → outcome ≡ outcome_at conf history event
     → WrittenBy Done (event_bytes event) capture capture' kf kf'
     → mid ≡ counted event outcome end → Acts outcome link link' clock clock' lf lf' mid new
     → WrittenBy why (line_of outcome) out out' of of' → (why ≡ SinkFault → 0 < length (line_of outcome))
-    → Takes conf history event nothing (seen link clock words capture out lf (faults cf ef df kf of)) (seen link' clock' words capture' out' lf' (faults cf ef df kf' of')) member end new why
+    → Takes conf history event [] (seen link clock words capture out lf (faults cf ef df kf of)) (seen link' clock' words capture' out' lf' (faults cf ef df kf' of')) member end new why
 takes_all conf history event outcome member link link' clock clock' words capture capture' out out' lf lf' cf ef df kf kf' of of' end mid new Done
     is_set stands fits leads (added, none) was acts (line, none') some = record {
+      made = map Correct (moves_by outcome);
       tried = acts.tried;
       deeds = Take event ∷ [];
       ending = Whole;
       events = refl;
       taken = event ∷ [];
       takes = refl;
+      acts = (ap (λ (o : Outcome). map Correct (moves_by o)) leads, acts.requests ∙ ap posted_by leads);
       does = record {
-        link = tried_sends link link' acts.tried acts.sends;
+        link = acts.sends;
         requests = requests_one conf history event outcome acts.tried leads acts.requests;
-        clock = made_moves clock clock' (along (moves_in conf) history (Take event ∷ [])) (rw (← moves_one conf history event outcome leads) acts.moves);
+        clock = acts.moves;
+        moves = moves_one conf history event outcome leads;
         words = added_none words;
         fit = (fits, tt);
         has_line = tt;
         capture = subst (λ (l : List ℕ). Added capture capture' l) (sym (append-nil (event_bytes event))) added;
         out = subst (λ (l : List ℕ). Added out out' l) (ap line_of leads ∙ sym (append-nil (line_of (outcome_at conf history event)))) line;
-        link_failed = lost_one acts.tried lf lf' acts.link_failed;
+        link_failed = acts.link_failed;
       };
       is_set = is_set;
       stands = stands;
@@ -135,22 +140,25 @@ takes_all conf history event outcome member link link' clock clock' words captur
     }
 takes_all conf history event outcome member link link' clock clock' words capture capture' out out' lf lf' cf ef df kf kf' of of' end mid new SinkFault
     is_set stands fits leads (added, none) was acts (front, line, fails) some = record {
+      made = map Correct (moves_by outcome);
       tried = acts.tried;
       deeds = [];
       ending = NoLine (Take event) front;
       events = refl;
       taken = event ∷ [];
       takes = refl;
+      acts = (ap (λ (o : Outcome). map Correct (moves_by o)) leads, acts.requests ∙ ap posted_by leads);
       does = record {
-        link = tried_sends link link' acts.tried acts.sends;
+        link = acts.sends;
         requests = requests_one conf history event outcome acts.tried leads acts.requests;
-        clock = made_moves clock clock' (along (moves_in conf) history (Take event ∷ [])) (rw (← moves_one conf history event outcome leads) acts.moves);
+        clock = acts.moves;
+        moves = moves_one conf history event outcome leads;
         words = added_none words;
         fit = (fits, tt);
         has_line = subst (λ (o : Outcome). 0 < length (line_of o)) leads (some refl);
         capture = subst (λ (l : List ℕ). Added capture capture' l) (sym (append-nil (event_bytes event))) added;
         out = subst (λ (o : Outcome). Added out out' (take front (line_of o))) leads line;
-        link_failed = lost_one acts.tried lf lf' acts.link_failed;
+        link_failed = acts.link_failed;
       };
       is_set = is_set;
       stands = stands;

@@ -2,11 +2,15 @@
 use Rattle.std.proofs.Common.{◌≡◌, ◌≢◌, ◌⊎◌, ◌↔◌, inl, inr, ◌<◌, ◌≤◌, ◌+◌, ◌*◌, ◌/◌, ◌^◌, ℕ, zero, suc, ℤ, List, [], ◌∷◌, ◌++◌, map, Option, unwrap_or, refl, sym, ◌∙◌, ap, subst, arith}
 use Rattle.std.proofs.lemmas.List.{append-nil}
 use Rattle.std.proofs.lemmas.Bool.{cases_lt}
-use Rattle.slot_disk.specs.Told.{DiskTold}
-use Rattle.edge_traits.specs.declared.link.Receipt.{Receipt}
+use Rattle.slot_disk.specs.Calls.{LeavesOnly}
+use Rattle.slot_disk.specs.Told.{DiskTold, IsDisk}
+use Rattle.edge_traits.specs.declared.datagram.Addr.{Addr}
+use Rattle.edge_traits.specs.Clock.{ClockCall, readings_among}
+use Rattle.edge_traits.specs.Link.{LinkCall, receipts_among}
 use Rattle.capture_fmt.specs.declared.event.Event.{Event}
 use Rattle.capture_fmt.specs.declared.event.Event.TheVariants.{Life, Tick, Resync, Arrive}
 use Rattle.time_machine.specs.declared.conf.Conf.{Conf}
+use Rattle.time_machine.specs.declared.outcome.Outcome.{Outcome}
 use Rattle.time_machine.specs.Events.{History}
 use Rattle.time_machine.specs.Words.{life_at, words}
 use Rattle.time_machine.specs.Machine.{told}
@@ -14,13 +18,14 @@ use Rattle.time_machine.specs.Growing.{Grows}
 use Rattle.time_machine.proofs.Lists.{all_split}
 use Rattle.sntp_core.specs.Standing.{StandsForHistory, conf_of, words_of}
 use Rattle.stamp_keep.specs.Image.{mark_of_image}
-use Rattle.stamp_keep.specs.Keep.{KeepsMarks}
+use Rattle.stamp_keep.specs.Keep.{KeepsMarks, KeepsUnused}
+use Rattle.stamp_keep.proofs.Moments.{and_then, started}
 use Rattle.run_deeds.specs.declared.life_end.LifeEnd.{LifeEnd}
 use Rattle.run_deeds.specs.declared.life_end.Why.{Why}
 use Rattle.run_deeds.specs.declared.life_end.Why.TheVariants.{Done, DiskFault, BadVersion, StampsSpent, ClockFault, EntropyFault, SinkFault}
-use Rattle.run_deeds.specs.Weaving.{Need, Stood, Start, Turns, WordFor, ReceiptNow, ReadingFor, Call, CallReading, CallWord, Round, RoundReading, Weaves, none, life, reads, draws, gets, quiet, lost, arrives, followed_by, turns_of}
+use Rattle.run_deeds.specs.Weaving.{Need, Stood, Start, Turns, WordFor, ReceiptNow, ReadingFor, Call, CallReading, CallWord, Round, RoundReading, Act, Weaves, none, acts, life, reads, draws, gets, quiet, lost, arrives, followed_by, turns_of}
 use Rattle.run_deeds.specs.Deeds.{Deed, Take, Ending, Whole, NoRecord, NoLine, IsWhole, all_done, events_given, history_after, missing_in}
-use Rattle.run_deeds.specs.Devices.{Faults, IsBeforeTick, IsBehind, IsBetween, IsInCalls, LifeEndsBy, NeedsCount, NeedsDisk, NeedsMark, NeedsReading, NeedsReceipt, NeedsWord, Seen}
+use Rattle.run_deeds.specs.Devices.{Faults, IsBeforeTick, IsBehind, IsBetween, IsInCalls, IsToDo, LifeEndsBy, NeedsCount, NeedsDisk, NeedsMark, NeedsReading, NeedsReceipt, NeedsWord, Seen, nothing}
 use Rattle.run_deeds.specs.Lives.{CallsForBlocks}
 use Rattle.run_deeds.specs.Marks.{Covers, KeepsLoadable, Reserved, last_count}
 use Rattle.run_deeds.specs.Parts.{Part, Runs}
@@ -30,10 +35,11 @@ use Rattle.run_deeds.proofs.Stopping.{tallies_none}
 use Rattle.run_deeds.proofs.Composing.{runs_then}
 use Rattle.member_run.specs.declared.running.Running.{Running}
 use Rattle.member_run.specs.Running.{CallsWhereDue, IsGoing, IsPart, IsUsedUp, RisesWhereDue, greatest_of, kept_of, member_of, totals_of}
-use Rattle.member_run.specs.Turning.{DueBy, TakesTurns}
+use Rattle.member_run.specs.Turning.{DueBy, TakesTurns, filled}
 use Rattle.member_run.proofs.Ordered.{given_are, history_of}
+use Rattle.member_run.proofs.Leaving.{unused_same, unused_then}
 use Rattle.member_run.proofs.Parting.{stops_as}
-use Rattle.member_run.proofs.Blocks.{IsTurn, NoLife, blocks_in, blocks_low, blocks_stay, is_due, mark_in, mark_stays, sends_in, sends_rise, tick_blocks, turn_front, turn_reserves, turns_later}
+use Rattle.member_run.proofs.Blocks.{IsTurn, NoAsk, NoLife, blocks_in, blocks_low, blocks_stay, is_due, mark_in, mark_stays, sends_in, sends_rise, tick_blocks, turn_front, turn_reserves, turns_later}
 
 -- ---- What a part of a run took
 
@@ -43,11 +49,11 @@ pub taken_history : (history : History) (deeds : List Deed) (ending : Ending) (t
 taken_history history deeds ending taken is = ap (history_after history) is ∙ history_of history taken
 
 -- no turn takes a Life
-pub later_taken : (conf : Conf) (n : ℕ) (history : History) (rs : List ℤ) (ws : List ℕ) (qs : List Receipt) (deeds : List Deed) (ending : Ending) (need : Need) (taken : List Event)
-    → all_done deeds ending ≡ map Take taken → Weaves conf (Turns n) history rs ws qs (events_given deeds ending) need → NoLife taken
-later_taken conf n history rs ws qs deeds ending need taken takes weaves =
-    let are : taken ++ missing_in ending ≡ turns_of rs ws qs = sym (given_are deeds ending taken takes) ∙ is_turns weaves in
-    let all : NoLife (taken ++ missing_in ending) = subst NoLife (sym are) (turns_later rs ws qs) in
+pub later_taken : (conf : Conf) (n : ℕ) (history : History) (cs : List ClockCall) (ws : List ℕ) (ls : List LinkCall) (deeds : List Deed) (ending : Ending) (need : Need) (taken : List Event)
+    → all_done deeds ending ≡ map Take taken → Weaves conf (Turns n) history cs ws ls (events_given deeds ending) need → NoLife taken
+later_taken conf n history cs ws ls deeds ending need taken takes weaves =
+    let are : taken ++ missing_in ending ≡ turns_of (readings_among cs) ws (receipts_among ls) = sym (given_are deeds ending taken takes) ∙ is_turns weaves in
+    let all : NoLife (taken ++ missing_in ending) = subst NoLife (sym are) (turns_later (readings_among cs) ws (receipts_among ls)) in
     (all_split _ taken (missing_in ending) all).0
 
 -- a whole turn begins with a Tick
@@ -57,8 +63,8 @@ pub record BeginsTurn (es : List Event) : Type 0 where
   pub later : List Event
   pub is : es ≡ Tick now word ∷ later
 
-begins_turn : {conf : Conf} {k : ℕ} {history : History} {rs : List ℤ} {ws : List ℕ} {qs : List Receipt} {es : List Event} {need : Need}
-    → Weaves conf (Turns (suc k)) history rs ws qs es need → need ≡ Turns k → BeginsTurn es
+begins_turn : {conf : Conf} {k : ℕ} {history : History} {cs : List ClockCall} {ws : List ℕ} {ls : List LinkCall} {es : List Event} {need : Need}
+    → Weaves conf (Turns (suc k)) history cs ws ls es need → need ≡ Turns k → BeginsTurn es
 begins_turn {k = k} none is = absurd (let same : suc k ≡ k = cc in omega (arith, same))
 begins_turn (reads none) is = absurd (let bad : ⊥ = cc in bad)
 begins_turn (reads {now = now} (draws {word = word} {es = es} s)) is = record { now = now; word = word; later = es; is = refl }
@@ -69,51 +75,66 @@ whole_given deeds (NoRecord event front) taken whole is = absurd whole
 whole_given deeds (NoLine deed front) taken whole is = absurd whole
 
 -- behind it one block more is reserved than the requests before it fill
-turn_blocks : (conf : Conf) (k : ℕ) (history : History) (rs : List ℤ) (ws : List ℕ) (qs : List Receipt) (deeds : List Deed) (ending : Ending) (need : Need) (taken : List Event)
-    → Weaves conf (Turns (suc k)) history rs ws qs (events_given deeds ending) need → need ≡ Turns k → IsWhole ending → all_done deeds ending ≡ map Take taken
+turn_blocks : (conf : Conf) (k : ℕ) (history : History) (cs : List ClockCall) (ws : List ℕ) (ls : List LinkCall) (deeds : List Deed) (ending : Ending) (need : Need) (taken : List Event)
+    → Weaves conf (Turns (suc k)) history cs ws ls (events_given deeds ending) need → need ≡ Turns k → IsWhole ending → all_done deeds ending ≡ map Take taken
     → 1 + sends_in conf history / 64 ≤ blocks_in conf (followed_by history taken)
-turn_blocks conf k history rs ws qs deeds ending need taken weaves well whole takes =
+turn_blocks conf k history cs ws ls deeds ending need taken weaves well whole takes =
     let first = begins_turn weaves well in
     let is : taken ≡ Tick first.now first.word ∷ first.later = sym (whole_given deeds ending taken whole takes) ∙ first.is in
-    let later : NoLife taken = later_taken conf (suc k) history rs ws qs deeds ending need taken takes weaves in
+    let later : NoLife taken = later_taken conf (suc k) history cs ws ls deeds ending need taken takes weaves in
     let rest : NoLife (Tick first.now first.word ∷ first.later) = subst NoLife is later in
     let stay = blocks_stay conf (Tick first.now first.word ∷ history) first.later rest.1 in
     let ticked = tick_blocks conf history first.now first.word in
     rw is (omega (arith, stay, ticked))
 
 -- where turns are asked for and all were taken, the first one began with a Tick
-first_tick : {conf : Conf} {k : ℕ} {history : History} {rs : List ℤ} {ws : List ℕ} {qs : List Receipt} {es : List Event} {need : Need}
-    → Weaves conf (Turns k) history rs ws qs es need → 0 < k → need ≡ Turns 0 → BeginsTurn es
+first_tick : {conf : Conf} {k : ℕ} {history : History} {cs : List ClockCall} {ws : List ℕ} {ls : List LinkCall} {es : List Event} {need : Need}
+    → Weaves conf (Turns k) history cs ws ls es need → 0 < k → need ≡ Turns 0 → BeginsTurn es
 first_tick {k = k} none some is = absurd (let same : k ≡ 0 = cc is in omega (arith, some, same))
 first_tick (reads none) some is = absurd (let bad : ⊥ = cc is in bad)
 first_tick (reads {now = now} (draws {word = word} {es = es} s)) some is = record { now = now; word = word; later = es; is = refl }
 
 -- so counts were reserved
-pub whole_reserves : {conf : Conf} {stood : Stood} {turns : ℕ} {rs : List ℤ} {ws : List ℕ} {qs : List Receipt} {es : List Event} {need : Need}
-    → Weaves conf (Start stood (Turns turns)) [] rs ws qs es need → 0 < turns → need ≡ Turns 0 → 1 ≤ blocks_in conf (followed_by [] es)
+pub whole_reserves : {conf : Conf} {stood : Stood} {turns : ℕ} {cs : List ClockCall} {ws : List ℕ} {ls : List LinkCall} {es : List Event} {need : Need}
+    → Weaves conf (Start stood (Turns turns)) [] cs ws ls es need → 0 < turns → need ≡ Turns 0 → 1 ≤ blocks_in conf (followed_by [] es)
 whole_reserves none some is = absurd (let bad : ⊥ = cc is in bad)
-whole_reserves {conf = conf} {stood = stood} (life {now = now} {rs = rs} {ws = ws} {qs = qs} {es = es} turns) some is =
+whole_reserves (life none) some is = absurd (let bad : ⊥ = cc is in bad)
+whole_reserves {conf = conf} {stood = stood} (life {now = now} {es = es} (acts {cs = cs} {ws = ws} {ls = ls} tried are turns)) some is =
     let first = first_tick turns some is in
-    let all : NoLife es = subst NoLife (sym (is_turns turns)) (turns_later rs ws qs) in
+    let all : NoLife es = subst NoLife (sym (is_turns turns)) (turns_later (readings_among cs) ws (receipts_among ls)) in
     let rest : NoLife (Tick first.now first.word ∷ first.later) = subst NoLife first.is all in
     let start = Life now stood.mark ∷ [] in
     rw first.is (omega (arith, blocks_stay conf (Tick first.now first.word ∷ start) first.later rest.1, tick_blocks conf start first.now first.word))
 
 -- a turn is a Tick and an Arrive at most
-one_turn : {conf : Conf} {history : History} {rs : List ℤ} {ws : List ℕ} {qs : List Receipt} {es : List Event} {need : Need}
-    → Weaves conf (Turns 1) history rs ws qs es need → IsTurn es
+one_reading : {conf : Conf} {from : Addr} {bytes : List ℕ} {history : History} {cs : List ClockCall} {ws : List ℕ} {ls : List LinkCall} {es : List Event} {need : Need}
+    → Weaves conf (ReadingFor 0 from bytes) history cs ws ls es need → NoAsk es
+one_reading none = tt
+one_reading (arrives none) = ((refl, refl), tt)
+one_reading (arrives (acts tried are none)) = ((refl, refl), tt)
+
+one_tick : {conf : Conf} {outcome : Outcome} {history : History} {cs : List ClockCall} {ws : List ℕ} {ls : List LinkCall} {es : List Event} {need : Need}
+    → Weaves conf (Act outcome (ReceiptNow 0)) history cs ws ls es need → NoAsk es
+one_tick none = tt
+one_tick (acts tried are none) = tt
+one_tick (acts tried are (gets s)) = one_reading s
+one_tick (acts tried are (quiet none)) = tt
+one_tick (acts tried are (lost none)) = tt
+
+one_word : {conf : Conf} {now : ℤ} {history : History} {cs : List ClockCall} {ws : List ℕ} {ls : List LinkCall} {es : List Event} {need : Need}
+    → Weaves conf (WordFor 0 now) history cs ws ls es need → IsTurn es
+one_word none = tt
+one_word (draws s) = (refl, one_tick s)
+
+one_turn : {conf : Conf} {history : History} {cs : List ClockCall} {ws : List ℕ} {ls : List LinkCall} {es : List Event} {need : Need}
+    → Weaves conf (Turns 1) history cs ws ls es need → IsTurn es
 one_turn none = tt
-one_turn (reads none) = tt
-one_turn (reads (draws none)) = (refl, tt)
-one_turn (reads (draws (gets none))) = (refl, tt)
-one_turn (reads (draws (gets (arrives none)))) = (refl, ((refl, refl), tt))
-one_turn (reads (draws (quiet none))) = (refl, tt)
-one_turn (reads (draws (lost none))) = (refl, tt)
+one_turn (reads s) = one_word s
 
 -- so is what was taken of it
-turn_taken : (conf : Conf) (history : History) (rs : List ℤ) (ws : List ℕ) (qs : List Receipt) (deeds : List Deed) (ending : Ending) (need : Need) (taken : List Event)
-    → all_done deeds ending ≡ map Take taken → Weaves conf (Turns 1) history rs ws qs (events_given deeds ending) need → IsTurn taken
-turn_taken conf history rs ws qs deeds ending need taken takes weaves =
+turn_taken : (conf : Conf) (history : History) (cs : List ClockCall) (ws : List ℕ) (ls : List LinkCall) (deeds : List Deed) (ending : Ending) (need : Need) (taken : List Event)
+    → all_done deeds ending ≡ map Take taken → Weaves conf (Turns 1) history cs ws ls (events_given deeds ending) need → IsTurn taken
+turn_taken conf history cs ws ls deeds ending need taken takes weaves =
     turn_front taken (missing_in ending) (subst IsTurn (given_are deeds ending taken takes) (one_turn weaves))
 
 -- ---- One turn is one of however many
@@ -131,37 +152,80 @@ raised left (CallReading wait flags) = CallReading wait flags
 raised left (CallWord wait flags now) = CallWord wait flags now
 raised left (Round k) = Round k
 raised left (RoundReading k from bytes) = RoundReading k from bytes
+raised left (Act outcome behind) = Act outcome (raised left behind)
 
-raise : {conf : Conf} {left : ℕ} {history : History} {rs : List ℤ} {ws : List ℕ} {qs : List Receipt} {es : List Event} {need : Need}
-    → Weaves conf (Turns 1) history rs ws qs es need → Weaves conf (Turns (suc left)) history rs ws qs es (raised left need)
+raise_reading : {conf : Conf} {left : ℕ} {from : Addr} {bytes : List ℕ} {history : History} {cs : List ClockCall} {ws : List ℕ} {ls : List LinkCall} {es : List Event} {need : Need}
+    → Weaves conf (ReadingFor 0 from bytes) history cs ws ls es need → Weaves conf (ReadingFor left from bytes) history cs ws ls es (raised left need)
+raise_reading none = none
+raise_reading (arrives none) = arrives none
+raise_reading (arrives (acts tried are none)) = arrives (acts tried are none)
+
+raise_tick : {conf : Conf} {outcome : Outcome} {left : ℕ} {history : History} {cs : List ClockCall} {ws : List ℕ} {ls : List LinkCall} {es : List Event} {need : Need}
+    → Weaves conf (Act outcome (ReceiptNow 0)) history cs ws ls es need → Weaves conf (Act outcome (ReceiptNow left)) history cs ws ls es (raised left need)
+raise_tick none = none
+raise_tick (acts tried are none) = acts tried are none
+raise_tick (acts tried are (gets s)) = acts tried are (gets (raise_reading s))
+raise_tick (acts tried are (quiet none)) = acts tried are (quiet none)
+raise_tick (acts tried are (lost none)) = acts tried are (lost none)
+
+raise_word : {conf : Conf} {left : ℕ} {now : ℤ} {history : History} {cs : List ClockCall} {ws : List ℕ} {ls : List LinkCall} {es : List Event} {need : Need}
+    → Weaves conf (WordFor 0 now) history cs ws ls es need → Weaves conf (WordFor left now) history cs ws ls es (raised left need)
+raise_word none = none
+raise_word (draws s) = draws (raise_tick s)
+
+raise : {conf : Conf} {left : ℕ} {history : History} {cs : List ClockCall} {ws : List ℕ} {ls : List LinkCall} {es : List Event} {need : Need}
+    → Weaves conf (Turns 1) history cs ws ls es need → Weaves conf (Turns (suc left)) history cs ws ls es (raised left need)
 raise none = none
-raise (reads none) = reads none
-raise (reads (draws none)) = reads (draws none)
-raise (reads (draws (gets none))) = reads (draws (gets none))
-raise (reads (draws (gets (arrives none)))) = reads (draws (gets (arrives none)))
-raise (reads (draws (quiet none))) = reads (draws (quiet none))
-raise (reads (draws (lost none))) = reads (draws (lost none))
+raise (reads s) = reads (raise_word s)
 
 -- the disk is called at its beginning alone
-not_begun : {conf : Conf} {history : History} {rs : List ℤ} {ws : List ℕ} {qs : List Receipt} {es : List Event} {need : Need}
-    → Weaves conf (Turns 1) history rs ws qs es need → NeedsDisk need → es ≡ []
-not_begun none needs = refl
-not_begun (reads none) needs = absurd needs
-not_begun (reads (draws none)) needs = absurd needs
-not_begun (reads (draws (gets none))) needs = absurd needs
-not_begun (reads (draws (gets (arrives none)))) needs = absurd (omega (arith, needs))
-not_begun (reads (draws (quiet none))) needs = absurd (omega (arith, needs))
-not_begun (reads (draws (lost none))) needs = absurd (omega (arith, needs))
+not_begun_reading : {conf : Conf} {from : Addr} {bytes : List ℕ} {history : History} {cs : List ClockCall} {ws : List ℕ} {ls : List LinkCall} {es : List Event} {need : Need}
+    → Weaves conf (ReadingFor 0 from bytes) history cs ws ls es need → NeedsDisk need → ⊥
+not_begun_reading none needs = needs
+not_begun_reading (arrives none) needs = needs
+not_begun_reading (arrives (acts tried are none)) needs = omega (arith, needs)
 
-not_counted : {conf : Conf} {history : History} {rs : List ℤ} {ws : List ℕ} {qs : List Receipt} {es : List Event} {need : Need}
-    → Weaves conf (Turns 1) history rs ws qs es need → NeedsCount need → es ≡ []
+not_begun_tick : {conf : Conf} {outcome : Outcome} {history : History} {cs : List ClockCall} {ws : List ℕ} {ls : List LinkCall} {es : List Event} {need : Need}
+    → Weaves conf (Act outcome (ReceiptNow 0)) history cs ws ls es need → NeedsDisk need → ⊥
+not_begun_tick none needs = needs
+not_begun_tick (acts tried are none) needs = needs
+not_begun_tick (acts tried are (gets s)) needs = not_begun_reading s needs
+not_begun_tick (acts tried are (quiet none)) needs = omega (arith, needs)
+not_begun_tick (acts tried are (lost none)) needs = omega (arith, needs)
+
+not_begun_word : {conf : Conf} {now : ℤ} {history : History} {cs : List ClockCall} {ws : List ℕ} {ls : List LinkCall} {es : List Event} {need : Need}
+    → Weaves conf (WordFor 0 now) history cs ws ls es need → NeedsDisk need → es ≡ []
+not_begun_word none needs = absurd needs
+not_begun_word (draws s) needs = absurd (not_begun_tick s needs)
+
+not_begun : {conf : Conf} {history : History} {cs : List ClockCall} {ws : List ℕ} {ls : List LinkCall} {es : List Event} {need : Need}
+    → Weaves conf (Turns 1) history cs ws ls es need → NeedsDisk need → es ≡ []
+not_begun none needs = refl
+not_begun (reads s) needs = not_begun_word s needs
+
+not_counted_reading : {conf : Conf} {from : Addr} {bytes : List ℕ} {history : History} {cs : List ClockCall} {ws : List ℕ} {ls : List LinkCall} {es : List Event} {need : Need}
+    → Weaves conf (ReadingFor 0 from bytes) history cs ws ls es need → NeedsCount need → ⊥
+not_counted_reading none needs = needs
+not_counted_reading (arrives none) needs = needs
+not_counted_reading (arrives (acts tried are none)) needs = omega (arith, needs)
+
+not_counted_tick : {conf : Conf} {outcome : Outcome} {history : History} {cs : List ClockCall} {ws : List ℕ} {ls : List LinkCall} {es : List Event} {need : Need}
+    → Weaves conf (Act outcome (ReceiptNow 0)) history cs ws ls es need → NeedsCount need → ⊥
+not_counted_tick none needs = needs
+not_counted_tick (acts tried are none) needs = needs
+not_counted_tick (acts tried are (gets s)) needs = not_counted_reading s needs
+not_counted_tick (acts tried are (quiet none)) needs = omega (arith, needs)
+not_counted_tick (acts tried are (lost none)) needs = omega (arith, needs)
+
+not_counted_word : {conf : Conf} {now : ℤ} {history : History} {cs : List ClockCall} {ws : List ℕ} {ls : List LinkCall} {es : List Event} {need : Need}
+    → Weaves conf (WordFor 0 now) history cs ws ls es need → NeedsCount need → es ≡ []
+not_counted_word none needs = absurd needs
+not_counted_word (draws s) needs = absurd (not_counted_tick s needs)
+
+not_counted : {conf : Conf} {history : History} {cs : List ClockCall} {ws : List ℕ} {ls : List LinkCall} {es : List Event} {need : Need}
+    → Weaves conf (Turns 1) history cs ws ls es need → NeedsCount need → es ≡ []
 not_counted none needs = refl
-not_counted (reads none) needs = absurd needs
-not_counted (reads (draws none)) needs = absurd needs
-not_counted (reads (draws (gets none))) needs = absurd needs
-not_counted (reads (draws (gets (arrives none)))) needs = absurd (omega (arith, needs))
-not_counted (reads (draws (quiet none))) needs = absurd (omega (arith, needs))
-not_counted (reads (draws (lost none))) needs = absurd (omega (arith, needs))
+not_counted (reads s) needs = not_counted_word s needs
 
 needs_reading : (left : ℕ) (need : Need) → NeedsReading need → NeedsReading (raised left need)
 needs_reading left (Start stood next) needs = tt
@@ -175,6 +239,7 @@ needs_reading left (CallReading wait flags) needs = tt
 needs_reading left (CallWord wait flags now) needs = absurd needs
 needs_reading left (Round k) needs = absurd needs
 needs_reading left (RoundReading k from bytes) needs = tt
+needs_reading left (Act outcome behind) needs = absurd needs
 
 needs_word : (left : ℕ) (need : Need) → NeedsWord need → NeedsWord (raised left need)
 needs_word left (Start stood next) needs = absurd needs
@@ -188,6 +253,7 @@ needs_word left (CallReading wait flags) needs = absurd needs
 needs_word left (CallWord wait flags now) needs = tt
 needs_word left (Round k) needs = absurd needs
 needs_word left (RoundReading k from bytes) needs = absurd needs
+needs_word left (Act outcome behind) needs = absurd needs
 
 needs_count : (left : ℕ) (need : Need) → NeedsCount need → NeedsCount (raised left need)
 needs_count left (Start stood next) needs = absurd needs
@@ -201,6 +267,7 @@ needs_count left (CallReading wait flags) needs = tt
 needs_count left (CallWord wait flags now) needs = absurd needs
 needs_count left (Round k) needs = absurd needs
 needs_count left (RoundReading k from bytes) needs = absurd needs
+needs_count left (Act outcome behind) needs = absurd needs
 
 needs_disk : (left : ℕ) (need : Need) → NeedsDisk need → NeedsDisk (raised left need)
 needs_disk left (Start stood next) needs = tt
@@ -214,6 +281,7 @@ needs_disk left (CallReading wait flags) needs = tt
 needs_disk left (CallWord wait flags now) needs = absurd needs
 needs_disk left (Round k) needs = absurd needs
 needs_disk left (RoundReading k from bytes) needs = absurd needs
+needs_disk left (Act outcome behind) needs = absurd needs
 
 needs_mark : (left : ℕ) (need : Need) → NeedsMark need → NeedsMark (raised left need)
 needs_mark left (Start stood next) needs = tt
@@ -227,6 +295,7 @@ needs_mark left (CallReading wait flags) needs = absurd needs
 needs_mark left (CallWord wait flags now) needs = absurd needs
 needs_mark left (Round k) needs = absurd needs
 needs_mark left (RoundReading k from bytes) needs = absurd needs
+needs_mark left (Act outcome behind) needs = absurd needs
 
 raised_receipt : (left : ℕ) (need : Need) → NeedsReceipt need → NeedsReceipt (raised left need)
 raised_receipt left (Start stood next) needs = absurd needs
@@ -240,6 +309,7 @@ raised_receipt left (CallReading wait flags) needs = absurd needs
 raised_receipt left (CallWord wait flags now) needs = absurd needs
 raised_receipt left (Round k) needs = absurd needs
 raised_receipt left (RoundReading k from bytes) needs = absurd needs
+raised_receipt left (Act outcome behind) needs = absurd needs
 
 raised_calls : (left : ℕ) (need : Need) → IsInCalls need → IsInCalls (raised left need)
 raised_calls left (Start stood next) needs = absurd needs
@@ -253,6 +323,7 @@ raised_calls left (CallReading wait flags) needs = absurd needs
 raised_calls left (CallWord wait flags now) needs = absurd needs
 raised_calls left (Round k) needs = tt
 raised_calls left (RoundReading k from bytes) needs = absurd needs
+raised_calls left (Act outcome behind) needs = absurd needs
 
 raised_between : (left : ℕ) (need : Need) → IsBetween need → IsBetween (raised left need)
 raised_between left (Start stood next) needs = absurd needs
@@ -266,12 +337,26 @@ raised_between left (CallReading wait flags) needs = absurd needs
 raised_between left (CallWord wait flags now) needs = absurd needs
 raised_between left (Round k) needs = tt
 raised_between left (RoundReading k from bytes) needs = absurd needs
+raised_between left (Act outcome behind) needs = absurd needs
 
 raised_behind : (left : ℕ) (need : Need) (event : Event) → IsBehind event need → IsBehind event (raised left need)
 raised_behind left need (Life now mark) behind = tt
 raised_behind left need (Tick now word) behind = raised_receipt left need behind
 raised_behind left need (Resync now word flags) behind = raised_calls left need behind
 raised_behind left need (Arrive now from bytes) behind = raised_between left need behind
+
+raised_does : (left : ℕ) (need : Need) (event : Event) → IsToDo event need → IsToDo event (raised left need)
+raised_does left (Start stood next) event does = absurd does
+raised_does left (Turns k) event does = absurd does
+raised_does left (WordFor k now) event does = absurd does
+raised_does left (ReceiptNow k) event does = absurd does
+raised_does left (ReadingFor k from bytes) event does = absurd does
+raised_does left Call event does = absurd does
+raised_does left (CallReading wait flags) event does = absurd does
+raised_does left (CallWord wait flags now) event does = absurd does
+raised_does left (Round k) event does = absurd does
+raised_does left (RoundReading k from bytes) event does = absurd does
+raised_does left (Act outcome behind) event does = raised_behind left behind event does
 
 raised_ends : (left : ℕ) (why : Why) (deeds : List Deed) (ending : Ending) (taken : List Event) (need : Need) (a b : Faults) → all_done deeds ending ≡ map Take taken
     → LifeEndsBy why ending need a b → LifeEndsBy why ending (raised left need) a b
@@ -281,25 +366,25 @@ raised_ends left BadVersion deeds ending taken need a b takes ends = (ends.0, ne
 raised_ends left StampsSpent deeds ending taken need a b takes ends = (ends.0, needs_count left need ends.1, ends.2)
 raised_ends left ClockFault deeds ending taken need a b takes ends = (ends.0, needs_reading left need ends.1, ends.2)
 raised_ends left EntropyFault deeds ending taken need a b takes ends = (ends.0, needs_word left need ends.1, ends.2)
-raised_ends left SinkFault deeds ending taken need a b takes ends = (stops_as (raised left) deeds ending taken need takes (raised_behind left need) ends.0, ends.1)
+raised_ends left SinkFault deeds ending taken need a b takes ends = (stops_as (raised left) deeds ending taken need takes (raised_behind left need) (raised_does left need) ends.0, ends.1)
 
 -- where no event of a turn was taken, its Tick was not
-none_before : {conf : Conf} {history : History} {rs : List ℤ} {ws : List ℕ} {qs : List Receipt} {es : List Event} {need : Need} (left : ℕ)
-    → Weaves conf (Turns 1) history rs ws qs es need → es ≡ [] → IsBeforeTick Whole (raised left need)
+none_before : {conf : Conf} {history : History} {cs : List ClockCall} {ws : List ℕ} {ls : List LinkCall} {es : List Event} {need : Need} (left : ℕ)
+    → Weaves conf (Turns 1) history cs ws ls es need → es ≡ [] → IsBeforeTick Whole (raised left need)
 none_before left none nothing = omega arith
 none_before left (reads none) nothing = tt
 none_before left (reads (draws rest)) nothing = absurd (let bad : ⊥ = cc in bad)
 
-record_before : {conf : Conf} {history : History} {rs : List ℤ} {ws : List ℕ} {qs : List Receipt} {es : List Event} {need : Need} (left front : ℕ) (event : Event)
-    → Weaves conf (Turns 1) history rs ws qs es need → es ≡ event ∷ [] → IsBeforeTick (NoRecord event front) (raised left need)
+record_before : {conf : Conf} {history : History} {cs : List ClockCall} {ws : List ℕ} {ls : List LinkCall} {es : List Event} {need : Need} (left front : ℕ) (event : Event)
+    → Weaves conf (Turns 1) history cs ws ls es need → es ≡ event ∷ [] → IsBeforeTick (NoRecord event front) (raised left need)
 record_before left front event none only = absurd (let bad : ⊥ = cc in bad)
 record_before left front event (reads none) only = absurd (let bad : ⊥ = cc in bad)
 record_before {need = need} left front event (reads {now = now} (draws {word = word} {es = es} rest)) only =
     let first : Tick now word ≡ event = let same : Tick now word ∷ es ≡ event ∷ [] = only in cc in
     subst (λ (e : Event). IsBeforeTick (NoRecord e front) (raised left need)) first tt
 
-before_tick : {conf : Conf} {history : History} {rs : List ℤ} {ws : List ℕ} {qs : List Receipt} {need : Need} (left : ℕ) (deeds : List Deed) (ending : Ending) (taken : List Event)
-    → all_done deeds ending ≡ map Take taken → Weaves conf (Turns 1) history rs ws qs (events_given deeds ending) need → taken ≡ [] → IsBeforeTick ending (raised left need)
+before_tick : {conf : Conf} {history : History} {cs : List ClockCall} {ws : List ℕ} {ls : List LinkCall} {need : Need} (left : ℕ) (deeds : List Deed) (ending : Ending) (taken : List Event)
+    → all_done deeds ending ≡ map Take taken → Weaves conf (Turns 1) history cs ws ls (events_given deeds ending) need → taken ≡ [] → IsBeforeTick ending (raised left need)
 before_tick left deeds Whole taken takes weaves nothing = none_before left weaves (given_are deeds Whole taken takes ∙ append-nil taken ∙ nothing)
 before_tick left deeds (NoRecord event front) taken takes weaves nothing =
     record_before left front event weaves (given_are deeds (NoRecord event front) taken takes ∙ ap (λ (l : List Event). l ++ event ∷ []) nothing)
@@ -313,7 +398,6 @@ pub raised_runs : (conf : Conf) (left : ℕ) (history : History) (a b : Seen) (k
     → Runs conf (Turns 1) (Turns 0) history a b kept kept' old new why → Runs conf (Turns (suc left)) (Turns left) history a b kept kept' old new why
 raised_runs conf left history a b kept kept' old new why r = record {
   given = r.given;
-  tried = r.tried;
   deeds = r.deeds;
   ending = r.ending;
   need = raised left r.need;
@@ -333,7 +417,6 @@ pub runs_short : (conf : Conf) (from next next' : Need) (history : History) (a b
     → Runs conf from next history a b kept kept' old new why → Runs conf from next' history a b kept kept' old new why
 runs_short conf from next next' history a b kept kept' old new why not r = record {
   given = r.given;
-  tried = r.tried;
   deeds = r.deeds;
   ending = r.ending;
   need = r.need;
@@ -352,8 +435,7 @@ runs_short conf from next next' history a b kept kept' old new why not r = recor
 unfoldable pub runs_none : (conf : Conf) (need : Need) (history : History) (now : Seen) (kept : ℕ) (end : LifeEnd) → Grows conf history
     → Runs conf need need history now now kept kept end end Done
 runs_none conf need history now kept end grows = record {
-  given = record { readings = []; words = []; receipts = [] };
-  tried = [];
+  given = nothing;
   deeds = [];
   ending = Whole;
   need = need;
@@ -391,17 +473,22 @@ pub record Turned (turns left : ℕ) (history : History) (old new : Running) (en
   pub calls : Reserved (kept_of old) (told (conf_of (member_of old)) history)
       → exit.time + 5 * blocks_in (conf_of (member_of old)) history
       ≤ entry.time + 5 * blocks_in (conf_of (member_of old)) (history_after history (all_done part.runs.deeds part.runs.ending))
+  pub most : Reserved (kept_of old) (told (conf_of (member_of old)) history)
+      → LeavesOnly entry exit (λ image. mark_of_image image ≤ filled (told (conf_of (member_of old)) (history_after history (all_done part.runs.deeds part.runs.ending))))
 
-pub turned_none : (turns : ℕ) (history : History) (running : Running) (disk : DiskTold) (now : Seen) → StandsForHistory (member_of running) history
+pub turned_none : (turns : ℕ) (history : History) (running : Running) (disk : DiskTold) (now : Seen) → IsDisk disk → IsGoing disk running → StandsForHistory (member_of running) history
     → Turned turns turns history running running disk disk now now
 unfolding runs_none
-turned_none turns history running disk now stands = record {
+turned_none turns history running disk now is going stands = record {
   part = record {
     runs = runs_none (conf_of (member_of running)) (Turns turns) history now (kept_of running) (totals_of running) stands.grows;
     is_set = refl;
     stands = stands;
   };
   calls = λ was. omega arith;
+  most = λ was.
+      started disk (λ image. mark_of_image image ≤ filled (told (conf_of (member_of running)) history)) is
+      (λ image left. let blocks = was.blocks in omega (arith, going.fits.stands image left, blocks, blocks_low (life_at (told (conf_of (member_of running)) history))));
 }
 
 -- a call's part, under the configuration of the run
@@ -444,18 +531,18 @@ turns_on turns left history old mid new a b c why one turn =
         stands = subst (λ (h : History). StandsForHistory (member_of new) h) (sym both.1) two.stands;
       };
       taken = r.taken;
-      later = later_taken conf 1 between r.given.readings r.given.words r.given.receipts r.deeds r.ending r.need r.taken r.takes r.weaves;
+      later = later_taken conf 1 between r.given.clock r.given.words r.given.link r.deeds r.ending r.need r.taken r.takes r.weaves;
       ends = both.1 ∙ taken_history between r.deeds r.ending r.taken r.takes;
       whole = λ is.
           let ends : LifeEndsBy Done r.ending r.need b.faults c.faults = subst Ends is r.ends in
-          turn_blocks conf 0 between r.given.readings r.given.words r.given.receipts r.deeds r.ending r.need r.taken r.weaves (r.well is) ends.0 r.takes;
+          turn_blocks conf 0 between r.given.clock r.given.words r.given.link r.deeds r.ending r.need r.taken r.weaves (r.well is) ends.0 r.takes;
       disk = λ is.
           let ends : LifeEndsBy DiskFault r.ending r.need b.faults c.faults = subst Ends is r.ends in
           sym (whole_given r.deeds r.ending r.taken ends.0 r.takes) ∙ not_begun r.weaves ends.1;
       spent = λ is.
           let ends : LifeEndsBy StampsSpent r.ending r.need b.faults c.faults = subst Ends is r.ends in
           sym (whole_given r.deeds r.ending r.taken ends.0 r.takes) ∙ not_counted r.weaves ends.1;
-      turn = turn_taken conf between r.given.readings r.given.words r.given.receipts r.deeds r.ending r.need r.taken r.takes r.weaves;
+      turn = turn_taken conf between r.given.clock r.given.words r.given.link r.deeds r.ending r.need r.taken r.takes r.weaves;
       first = λ nothing. rw (both.2, both.3) (before_tick left r.deeds r.ending r.taken r.takes r.weaves nothing);
     }
 
@@ -539,7 +626,7 @@ room_on why conf between taken mid later counted empty spends covered below (inr
 -- no image stands for more than a block above those that the requests fill
 most_on : (conf : Conf) (between : History) (taken : List Event) (mid : Running) (count : ℕ) → NoLife taken → Counted mid conf between
     → (count ≤ kept_of mid) ⊎ (IsUsedUp mid × (count ≤ kept_of mid + 64))
-    → count ≤ unwrap_or (mark_in conf (followed_by between taken)) 0 + 64 * (1 + sends_in conf (followed_by between taken) / 64)
+    → count ≤ filled (told conf (followed_by between taken))
 most_on conf between taken mid count later counted (inl low) =
     let blocks = counted.reserved.blocks in
     let stays = ap (λ (o : Option ℕ). unwrap_or o 0) (mark_stays conf between taken later) in
@@ -554,11 +641,24 @@ some_or_none : {A : Type 0} (es : List A) → (es ≢ []) ⊎ (es ≡ [])
 some_or_none [] = inr refl
 some_or_none (e ∷ es) = inl (λ is. let bad : ⊥ = cc is in bad)
 
+-- nor one of the turns before
+low_on : (conf : Conf) (between : History) (taken : List Event) (count : ℕ) → NoLife taken → count ≤ filled (told conf between) → count ≤ filled (told conf (followed_by between taken))
+low_on conf between taken count later low =
+    let stays = ap (λ (o : Option ℕ). unwrap_or o 0) (mark_stays conf between taken later) in
+    omega (arith, low, stays, sends_rise conf between taken later)
+
+moments_on : (conf : Conf) (between : History) (taken : List Event) (mid : Running) (e m x : DiskTold) → NoLife taken → Counted mid conf between
+    → LeavesOnly e m (λ image. mark_of_image image ≤ filled (told conf between)) → RisesWhereDue mid m x
+    → LeavesOnly e x (λ image. mark_of_image image ≤ filled (told conf (followed_by between taken)))
+moments_on conf between taken mid e m x later counted first next =
+    and_then first next (λ image low. low_on conf between taken (mark_of_image image) later low)
+    (λ image rises. most_on conf between taken mid (mark_of_image image) later counted rises)
+
 pub turned_on : (turns left : ℕ) (history : History) (old mid new : Running) (e m x : DiskTold) (a b c : Seen)
-    → Turned turns (suc left) history old mid e m a b → mid.last ≡ last_count (words_of mid.member) → CallsWhereDue mid m x
+    → Turned turns (suc left) history old mid e m a b → mid.last ≡ last_count (words_of mid.member) → CallsWhereDue mid m x → RisesWhereDue mid m x
     → ((k : ℕ) → IsPart mid new (Turns (suc k)) (Turns k) b c Done)
     → Turned turns left history old new e x a c
-turned_on turns left history old mid new e m x a b c was last calls turn =
+turned_on turns left history old mid new e m x a b c was last calls rises turn =
     let conf = conf_of (member_of old) in
     let one = was.part in
     let between = history_after history (all_done one.runs.deeds one.runs.ending) in
@@ -572,6 +672,13 @@ turned_on turns left history old mid new e m x a b c was last calls turn =
           } in
           let all = calls_on conf between on.taken mid e m x (blocks_in conf history) on.later counted calls (was.calls reserved) (on.whole refl) in
           rw on.ends all;
+      most = λ reserved.
+          let counted : Counted mid conf between = record {
+            last = last_is mid conf between one.is_set one.stands last;
+            reserved = one.runs.reserved refl reserved;
+          } in
+          let P : History → Type 0 = λ (h : History). LeavesOnly e x (λ image. mark_of_image image ≤ filled (told conf h)) in
+          subst P (sym on.ends) (moments_on conf between on.taken mid e m x on.later counted (was.most reserved) rises);
     }
 
 -- what the answers that speak of the disk say
@@ -596,7 +703,7 @@ due_by SinkFault conf between taken mid counted first empty never used spent = t
 pub turns_end : (turns left : ℕ) (history : History) (old mid new : Running) (e m x : DiskTold) (a b c : Seen) (why : Why) → why ≢ Done → why ≢ BadVersion
     → Turned turns (suc left) history old mid e m a b → mid.last ≡ last_count (words_of mid.member) → CallsWhereDue mid m x
     → (why ≡ DiskFault → IsUsedUp mid) → why ≡ StampsSpent ↔ (IsUsedUp mid × (4294967231 < kept_of mid)) → mid.last ≤ kept_of mid → kept_of mid < 2 ^ 32
-    → RisesWhereDue mid x → (why ≡ StampsSpent → x.time ≡ m.time) → ((k : ℕ) → IsPart mid new (Turns (suc k)) (Turns k) b c why)
+    → RisesWhereDue mid m x → (why ≡ StampsSpent → x.time ≡ m.time) → ((k : ℕ) → IsPart mid new (Turns (suc k)) (Turns k) b c why)
     → TakesTurns turns history old new e x a c why
 unfolding runs_short
 turns_end turns left history old mid new e m x a b c why not never was last calls used spent covered below rises still turn =
@@ -621,7 +728,9 @@ turns_end turns left history old mid new e m x a b c why not never was last call
           record {
             calls = rw on.ends all;
             within = rw on.ends room;
-            most = λ image left. rw on.ends (most_on conf between on.taken mid (mark_of_image image) on.later counted (rises.each image left));
+            most =
+                let P : History → Type 0 = λ (h : History). LeavesOnly e x (λ image. mark_of_image image ≤ filled (told conf h)) in
+                subst P (sym on.ends) (moments_on conf between on.taken mid e m x on.later counted (was.most reserved) rises);
             due = rw on.ends due;
           };
       blocks = λ reserved.
@@ -647,9 +756,7 @@ turns_done turns history old new e x a b was going = record {
         within =
             let blocks = (was.part.runs.reserved refl reserved).blocks in
             omega (arith, going.below, blocks);
-        most = λ image left.
-            let blocks = (was.part.runs.reserved refl reserved).blocks in
-            omega (arith, going.fits.stands image left, blocks, blocks_low (life_at (told conf behind)));
+        most = was.most reserved;
         due = tt;
       };
   blocks = λ reserved. inl (was.calls reserved);
@@ -692,15 +799,17 @@ pub record Goes (turns done : ℕ) (old new : Running) (entry exit : DiskTold) (
   pub turned : (history : History) → StandsForHistory (member_of old) history → Turned turns left history old new entry exit before now
   pub least : KeepsMarks entry exit
   pub loads : KeepsLoadable entry exit
+  pub unused : LeavesOnly entry exit (KeepsUnused entry)
 
-pub goes_none : (turns : ℕ) (running : Running) (disk : DiskTold) (now : Seen) → IsGoing disk running → Goes turns 0 running running disk disk now now
-goes_none turns running disk now going = record {
+pub goes_none : (turns : ℕ) (running : Running) (disk : DiskTold) (now : Seen) → IsDisk disk → IsGoing disk running → Goes turns 0 running running disk disk now now
+goes_none turns running disk now is going = record {
   left = turns;
   sum = omega arith;
   going = going;
-  turned = λ history stands. turned_none turns history running disk now stands;
+  turned = λ history stands. turned_none turns history running disk now is going stands;
   least = marks_stay disk;
   loads = loads_stay disk;
+  unused = unused_same disk is;
 }
 
 pub one_left : (turns done left : ℕ) → done < turns → done + left ≡ turns → (k : ℕ) × (left ≡ suc k)
@@ -708,9 +817,9 @@ one_left turns done zero below sum = absurd (omega (arith, below, sum))
 one_left turns done (suc k) below sum = (k, refl)
 
 pub goes_on : (turns done : ℕ) (old mid new : Running) (e m x : DiskTold) (a b c : Seen) → done < turns → Goes turns done old mid e m a b
-    → ((k : ℕ) → IsPart mid new (Turns (suc k)) (Turns k) b c Done) → IsGoing x new → CallsWhereDue mid m x → KeepsMarks m x → KeepsLoadable m x
-    → Goes turns (done + 1) old new e x a c
-goes_on turns done old mid new e m x a b c below was turn going calls least loads =
+    → ((k : ℕ) → IsPart mid new (Turns (suc k)) (Turns k) b c Done) → IsGoing x new → CallsWhereDue mid m x → RisesWhereDue mid m x → KeepsMarks m x → KeepsLoadable m x
+    → IsDisk m → LeavesOnly m x (KeepsUnused m) → Goes turns (done + 1) old new e x a c
+goes_on turns done old mid new e m x a b c below was turn going calls rises least loads is unused =
     let one = one_left turns done was.left below was.sum in
     let P : ℕ → Type 0 = λ (left : ℕ). (history : History) → StandsForHistory (member_of old) history → Turned turns left history old mid e m a b in
     let turned : P (suc one.0) = subst P one.1 was.turned in
@@ -718,14 +827,15 @@ goes_on turns done old mid new e m x a b c below was turn going calls least load
       left = one.0;
       sum = omega (arith, was.sum, one.1);
       going = going;
-      turned = λ history stands. turned_on turns one.0 history old mid new e m x a b c (turned history stands) was.going.begun.last calls turn;
+      turned = λ history stands. turned_on turns one.0 history old mid new e m x a b c (turned history stands) was.going.begun.last calls rises turn;
       least = marks_then was.least least;
       loads = loads_then was.loads loads;
+      unused = unused_then is was.unused unused;
     }
 
 pub goes_stop : (turns done : ℕ) (old mid new : Running) (e m x : DiskTold) (a b c : Seen) (why : Why) → done < turns → Goes turns done old mid e m a b
     → why ≢ Done → why ≢ BadVersion → ((k : ℕ) → IsPart mid new (Turns (suc k)) (Turns k) b c why) → CallsWhereDue mid m x
-    → (why ≡ DiskFault → IsUsedUp mid) → why ≡ StampsSpent ↔ (IsUsedUp mid × (4294967231 < kept_of mid)) → RisesWhereDue mid x → (why ≡ StampsSpent → x.time ≡ m.time)
+    → (why ≡ DiskFault → IsUsedUp mid) → why ≡ StampsSpent ↔ (IsUsedUp mid × (4294967231 < kept_of mid)) → RisesWhereDue mid m x → (why ≡ StampsSpent → x.time ≡ m.time)
     → (history : History) → StandsForHistory (member_of old) history → TakesTurns turns history old new e x a c why
 goes_stop turns done old mid new e m x a b c why below was not never turn calls used spent rises still history stands =
     let one = one_left turns done was.left below was.sum in

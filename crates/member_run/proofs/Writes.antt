@@ -57,3 +57,7 @@ closes_on end BadVersion old mid new before between now first second = absurd se
 closes_on end StampsSpent old mid new before between now first second = absurd second
 closes_on end ClockFault old mid new before between now first second = absurd second
 closes_on end EntropyFault old mid new before between now first second = absurd second
+
+-- they never end at the disk
+pub closes_version : (end : LifeEnd) (why : Why) (old new : Option (List ℕ)) (before now : ℕ) → Closes end why old new before now → why ≡ BadVersion → ⊥
+closes_version end why old new before now closes is = subst (λ (w : Why). Closes end w old new before now) is closes

@@ -4,12 +4,12 @@ use Rattle.base_specs.specs.Counts.{Fails}
 use Rattle.base_specs.specs.Told.{Added}
 use Rattle.edge_traits.specs.declared.sink.Put.{Put}
 use Rattle.edge_traits.specs.declared.sink.Put.TheVariants as write
-use Rattle.edge_traits.specs.Clock.{ClockTold, GaveReadings}
+use Rattle.edge_traits.specs.Clock.{ClockCall, GaveReadings}
 use Rattle.run_deeds.specs.declared.life_end.Why.{Why}
 use Rattle.run_deeds.specs.declared.life_end.Why.TheVariants.{Done, DiskFault, BadVersion, StampsSpent, ClockFault, EntropyFault, SinkFault}
 
 -- a reading was given, or the clock failed and gave none
-abbrev pub ReadBy : Result ℤ Why → Option ClockTold → Option ClockTold → ℕ → ℕ → Type 0
+abbrev pub ReadBy : Result ℤ Why → Option (List ClockCall) → Option (List ClockCall) → ℕ → ℕ → Type 0
 ReadBy (Ok time) old new before now = GaveReadings old new (time ∷ []) × (now ≡ before)
 ReadBy (Err why) old new before now = (why ≡ ClockFault) × (new ≡ old) × Fails before now
 

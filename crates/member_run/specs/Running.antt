@@ -1,5 +1,6 @@
 -- What a run keeps between its calls, and what one of them says of it.
-use Rattle.std.specs.Prelude.{◌≡◌, ◌⊎◌, ℕ, ◌+◌, ◌^◌, ◌≤◌, ◌<◌, List, IsSome, ⊤}
+use Rattle.std.specs.Prelude.{◌≡◌, ◌⊎◌, ℕ, ◌+◌, ◌^◌, ◌≤◌, ◌<◌, IsSome, ⊤}
+use Rattle.slot_disk.specs.Calls.{LeavesOnly}
 use Rattle.slot_disk.specs.Told.{DiskTold}
 use Rattle.stamp_keep.specs.Image.{mark_of_image}
 use Rattle.stamp_keep.specs.Keep.{Fits, kept_mark}
@@ -63,10 +64,11 @@ IsUsedUp running = running.last ≡ kept_of running
 abbrev pub CallsWhereDue : Running → DiskTold → DiskTold → Type 0
 CallsWhereDue running old new = (new.time ≡ old.time) ⊎ (IsUsedUp running × (new.time ≤ old.time + 5))
 
--- No image stands for more than the mark up to which counts were reserved, or than a block more where these are used up.
-pub record RisesWhereDue (running : Running) (disk : DiskTold) : Type 0 where
-  pub each : (image : List ℕ) → disk.may_leave image
-      → (mark_of_image image ≤ kept_of running) ⊎ (IsUsedUp running × (mark_of_image image ≤ kept_of running + 64))
+-- A crash at any moment of the call leaves an image that stands for no more than the mark up to which counts were
+-- reserved, or than a block more where these are used up.
+abbrev pub RisesWhereDue : Running → DiskTold → DiskTold → Type 0
+RisesWhereDue running old new =
+    LeavesOnly old new (λ image. (mark_of_image image ≤ kept_of running) ⊎ (IsUsedUp running × (mark_of_image image ≤ kept_of running + 64)))
 
 -- neither the keeper nor the counts changed
 pub record SendsNone (old new : Running) : Type 0 where

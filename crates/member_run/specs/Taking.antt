@@ -1,13 +1,14 @@
 -- One event is taken, whichever call ends it.
-use Rattle.std.specs.Prelude.{◌≡◌, ◌⊎◌, ℕ, ℤ, List, [], ◌∷◌, map, Option}
+use Rattle.std.specs.Prelude.{◌≡◌, ◌⊎◌, ℕ, ℤ, List, [], ◌∷◌, ◌++◌, map, Option}
 use Rattle.base_specs.specs.Counts.{FailsTimes}
+use Rattle.base_specs.specs.Told.{Grew}
 use Rattle.edge_traits.specs.declared.datagram.Addr.{Addr}
 use Rattle.edge_traits.specs.declared.link.Tried.{Tried}
 use Rattle.edge_traits.specs.declared.sink.Put.{Put}
 use Rattle.edge_traits.specs.declared.sink.Put.TheVariants as write
 use Rattle.edge_traits.specs.Sink.{PutCounts}
-use Rattle.edge_traits.specs.Clock.{ClockTold, MadeMoves}
-use Rattle.edge_traits.specs.Link.{LinkTold, TriedSends, failed_sends}
+use Rattle.edge_traits.specs.Clock.{ClockCall, Correct, Read}
+use Rattle.edge_traits.specs.Link.{LinkCall, Send, failed_calls}
 use Rattle.capture_fmt.specs.declared.event.Event.{Event}
 use Rattle.time_machine.specs.declared.conf.Conf.{Conf}
 use Rattle.time_machine.specs.declared.outcome.Outcome.{Outcome}
@@ -20,14 +21,11 @@ use Rattle.run_deeds.specs.declared.life_end.LifeEnd.{LifeEnd}
 use Rattle.run_deeds.specs.declared.life_end.Why.{Why}
 use Rattle.run_deeds.specs.declared.life_end.Why.TheVariants.{Done, DiskFault, BadVersion, StampsSpent, ClockFault, EntropyFault, SinkFault}
 use Rattle.run_deeds.specs.Counting.{more, with_lost}
-use Rattle.run_deeds.specs.Deeds.{Deed, Take, Ending, Whole, IsWhole, history_after, all_done, events_given}
-use Rattle.run_deeds.specs.Devices.{Seen, Given, Faults, Does, ClockFailed, SinkFailed, posted_of}
+use Rattle.run_deeds.specs.Deeds.{Deed, Take, Ending, Whole, NoRecord, NoLine, IsWhole, history_after, all_done, events_given}
+use Rattle.run_deeds.specs.Devices.{Seen, Faults, Does, ClockFailed, SinkFailed, nothing}
+use Rattle.run_deeds.specs.Weaving.{posted_of}
 use Rattle.run_deeds.specs.Parts.{Tallies}
 use Rattle.member_run.specs.declared.running.Running.{Running}
-
--- no device gave anything
-abbrev pub nothing : Given
-nothing = record { readings = []; words = []; receipts = [] }
 
 -- what taking an event answers: only a sink may fail in it
 abbrev pub TakeEnds : Why → Ending → Faults → Faults → Type 0
@@ -39,24 +37,33 @@ TakeEnds StampsSpent ending before now = ⊥
 TakeEnds ClockFault ending before now = ⊥
 TakeEnds EntropyFault ending before now = ⊥
 
--- after a history an event is taken, for which the devices gave this
-pub record Takes (conf : Conf) (history : History) (event : Event) (given : Given) (before now : Seen) (member : Member) (old new : LifeEnd) (why : Why) : Type 0 where
+-- What an event led to was done, a request sent or the clock corrected; or nothing was, where its record could not be
+-- written.
+abbrev pub ActsBy : Ending → Outcome → List ClockCall → List Tried → Type 0
+ActsBy Whole outcome made tried = (made ≡ map Correct (moves_by outcome)) × (map posted_of tried ≡ posted_by outcome)
+ActsBy (NoRecord event front) outcome made tried = (made ≡ []) × (tried ≡ [])
+ActsBy (NoLine deed front) outcome made tried = (made ≡ map Correct (moves_by outcome)) × (map posted_of tried ≡ posted_by outcome)
+
+-- after a history an event is taken, for which these calls of the clock were made; behind them stand its own
+pub record Takes (conf : Conf) (history : History) (event : Event) (read : List ClockCall) (before now : Seen) (member : Member) (old new : LifeEnd) (why : Why) : Type 0 where
+  pub made : List ClockCall
   pub tried : List Tried
   pub deeds : List Deed
   pub ending : Ending
   pub events : events_given deeds ending ≡ event ∷ []
   pub taken : List Event
   pub takes : all_done deeds ending ≡ map Take taken
-  pub does : Does conf history given tried deeds ending before now
+  pub acts : ActsBy ending (outcome_at conf history event) made tried
+  pub does : Does conf history (record { clock = read ++ made; words = []; link = map Send tried }) deeds ending before now
   pub is_set : conf_of member ≡ conf
   pub stands : StandsForHistory member (history_after history (all_done deeds ending))
-  pub tallies : Tallies conf history (all_done deeds ending) [] tried old new
+  pub tallies : Tallies conf history (all_done deeds ending) (map Send tried) old new
   pub ends : TakeEnds why ending before.faults now.faults
 
 -- the clock failed, and nothing was taken
 pub record Unread (conf : Conf) (history : History) (before now : Seen) (member : Member) (old new : LifeEnd) (why : Why) : Type 0 where
   pub is_clock : why ≡ ClockFault
-  pub does : Does conf history nothing [] [] Whole before now
+  pub does : Does conf history nothing [] Whole before now
   pub is_set : conf_of member ≡ conf
   pub stands : StandsForHistory member history
   pub totals : new ≡ old
@@ -66,22 +73,22 @@ pub record Unread (conf : Conf) (history : History) (before now : Seen) (member 
 abbrev pub TakesAt : Conf → History → (ℤ → Event) → Seen → Seen → Member → LifeEnd → LifeEnd → Why → Type 0
 TakesAt conf history event before now member old new why =
     Unread conf history before now member old new why
-    ⊎ ((time : ℤ) × Takes conf history (event time) (record { readings = time ∷ []; words = []; receipts = [] }) before now member old new why)
+    ⊎ ((time : ℤ) × Takes conf history (event time) (Read time ∷ []) before now member old new why)
 
 -- it is taken whole, and leads to this
 pub record TakesTo (conf : Conf) (history : History) (event : ℤ → Event) (before now : Seen) (member : Member) (old new : LifeEnd) (outcome : Outcome) : Type 0 where
   pub time : ℤ
-  pub takes : Takes conf history (event time) (record { readings = time ∷ []; words = []; receipts = [] }) before now member old new Done
+  pub takes : Takes conf history (event time) (Read time ∷ []) before now member old new Done
   pub leads : outcome ≡ outcome_at conf history (event time)
 
 -- a request is sent, or the clock corrected, as an outcome says, and a send that failed is counted
-pub record Acts (outcome : Outcome) (link link' : Option LinkTold) (clock clock' : Option ClockTold) (before now : ℕ) (old new : LifeEnd) : Type 0 where
+pub record Acts (outcome : Outcome) (link link' : Option (List LinkCall)) (clock clock' : Option (List ClockCall)) (before now : ℕ) (old new : LifeEnd) : Type 0 where
   pub tried : List Tried
   pub requests : map posted_of tried ≡ posted_by outcome
-  pub sends : TriedSends link link' tried
-  pub moves : MadeMoves clock clock' (moves_by outcome)
-  pub link_failed : FailsTimes (failed_sends tried) before now
-  pub counted : new ≡ record old { lost = more old.lost (failed_sends tried) }
+  pub sends : Grew link link' (map Send tried)
+  pub moves : Grew clock clock' (map Correct (moves_by outcome))
+  pub link_failed : FailsTimes (failed_calls (map Send tried)) before now
+  pub counted : new ≡ record old { lost = more old.lost (failed_calls (map Send tried)) }
 
 -- the numbers after a send that was answered so
 abbrev pub with_put : Put → LifeEnd → LifeEnd
@@ -89,9 +96,9 @@ with_put write.Done end = end
 with_put write.Failed end = with_lost end
 
 -- a request is sent, and counted where the send failed
-pub record Sends (to : Addr) (bytes : List ℕ) (link link' : Option LinkTold) (before now : ℕ) (old new : LifeEnd) : Type 0 where
+pub record Sends (to : Addr) (bytes : List ℕ) (link link' : Option (List LinkCall)) (before now : ℕ) (old new : LifeEnd) : Type 0 where
   pub put : Put
-  pub sends : TriedSends link link' (record { to = to; bytes = bytes; put = put } ∷ [])
+  pub sends : Grew link link' (Send (record { to = to; bytes = bytes; put = put }) ∷ [])
   pub counts : PutCounts put before now
   pub counted : new ≡ with_put put old
 

@@ -1,5 +1,6 @@
 -- So many turns, one after the other.
 use Rattle.std.specs.Prelude.{ℕ, ◌+◌, ◌*◌, ◌/◌, ◌^◌, ◌<◌, ◌≤◌, List, unwrap_or, ⊤}
+use Rattle.slot_disk.specs.Calls.{LeavesOnly}
 use Rattle.slot_disk.specs.Told.{DiskTold}
 use Rattle.stamp_keep.specs.Image.{mark_of_image}
 use Rattle.time_machine.specs.Entries.{count_of, last_of}
@@ -30,13 +31,17 @@ DueBy ClockFault before = ⊤
 DueBy EntropyFault before = ⊤
 DueBy SinkFault before = ⊤
 
+-- a block more than the requests of the last life fill above its mark
+abbrev pub filled : List Told → ℕ
+filled entries = unwrap_or (last_of (λ t. mark_of t.event) entries) 0 + 64 * (1 + count_of has_sent (life_at entries) / 64)
+
 -- The disk is called five times at most for each block, the one among them whose reserve may have failed. No count past
--- the last one of 32 bits is reserved, and no image stands for more than a block above those that the requests fill.
+-- the last one of 32 bits is reserved, and no image of any moment stands for more than a block above those that the
+-- requests fill.
 pub record CallsFor (older newer : List Told) (entry exit : DiskTold) (why : Why) : Type 0 where
   pub calls : exit.time + 5 * blocks_of (life_at older) ≤ entry.time + 5 * (1 + count_of has_sent (life_at newer) / 64)
   pub within : unwrap_or (last_of (λ t. mark_of t.event) newer) 0 + 64 * blocks_of (life_at newer) < 2 ^ 32
-  pub most : (image : List ℕ) → exit.may_leave image
-      → mark_of_image image ≤ unwrap_or (last_of (λ t. mark_of t.event) newer) 0 + 64 * (1 + count_of has_sent (life_at newer) / 64)
+  pub most : LeavesOnly entry exit (λ image. mark_of_image image ≤ filled newer)
   pub due : DueBy why newer
 
 -- so many turns after a history, in whose last life counts were reserved as they were due

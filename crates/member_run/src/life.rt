@@ -60,6 +60,10 @@ pub fn live<L: Link, C: Clock, D: Disk, E: Entropy, O: Sink>(
         (O.faults capture.new) (O.faults out.new))
         → result.why ≡ Why.Done }
 
+    // Where the disk is of another version, no other device is called.
+    ensures untouched { result.why ≡ Why.BadVersion → (link.new ≡ link.old) × (clock.new ≡ clock.old)
+        × (entropy.new ≡ entropy.old) × (out.new ≡ out.old) × (capture.new ≡ capture.old) }
+
     // No count falls.
     ensures link_count { L.faults link.old ≤ L.faults link.new }
     ensures clock_count { C.faults clock.old ≤ C.faults clock.new }
@@ -82,7 +86,8 @@ pub fn live<L: Link, C: Clock, D: Disk, E: Entropy, O: Sink>(
 
 impl Running {
     ghost use Rattle.std.specs.Prelude.{IsErrOf, OnOk};
-    ghost use Rattle.stamp_keep.specs.Keep.{KeepsMarks};
+    ghost use Rattle.slot_disk.specs.Calls.{LeavesOnly};
+    ghost use Rattle.stamp_keep.specs.Keep.{KeepsMarks, KeepsUnused};
     ghost use Rattle.time_machine.specs.Events.{History};
     ghost use Rattle.sntp_core.specs.Standing.{StandsForHistory};
     ghost use Rattle.run_deeds.specs.declared.life_end.Why.{Why};
@@ -118,6 +123,7 @@ impl Running {
         ensures going { OnOk result (IsGoing (D.told disk.new) self.new) }
         ensures least { KeepsMarks (D.told disk.old) (D.told disk.new) }
         ensures still_loads { KeepsLoadable (D.told disk.old) (D.told disk.new) }
+        ensures unused { LeavesOnly (D.told disk.old) (D.told disk.new) (KeepsUnused (D.told disk.old)) }
         ensures covers { Covers (D.told disk.new) (greatest_of self.new) }
         ensures never { (IsErrOf result Why.Done → ⊥) × (IsErrOf result Why.BadVersion → ⊥) }
     {

@@ -1,9 +1,11 @@
 //! Counts are reserved before they are sent.
 ghost use Rattle.std.specs.Prelude.{◌≡◌, ◌+◌, ◌≤◌, IfOk, IfSome, IsErrOf, OnOk};
 ghost use Rattle.stamp_keep.specs.Image.{mark_of_image};
-ghost use Rattle.stamp_keep.specs.Keep.{Fits, IsLeft, KeepsMarks, kept_mark};
+ghost use Rattle.slot_disk.specs.Calls.{LeavesOnly};
+ghost use Rattle.stamp_keep.specs.Keep.{Fits, IsLeft, KeepsMarks, KeepsUnused, StandsAsBefore};
+ghost use Rattle.stamp_keep.specs.Keep.{kept_mark};
 ghost use Rattle.run_deeds.specs.declared.life_end.Why.{Why};
-ghost use Rattle.run_deeds.specs.Marks.{AddsNoMark, KeepsLoadable};
+ghost use Rattle.run_deeds.specs.Marks.{KeepsLoadable};
 ghost use Rattle.member_run.specs.Reserving.{DiskBlamed, IsLoadedFrom, LoadedBy, why_of_fault};
 
 use crate::Running;
@@ -24,7 +26,8 @@ pub(crate) fn load<D: Disk>(disk: &mut D) -> Result<Keeper, Why>
 
     ensures least { KeepsMarks (D.told disk.old) (D.told disk.new) }
     ensures still_loads { KeepsLoadable (D.told disk.old) (D.told disk.new) }
-    ensures most { AddsNoMark (D.told disk.old) (D.told disk.new) }
+    ensures any_moment { LeavesOnly (D.told disk.old) (D.told disk.new) (StandsAsBefore (D.told disk.old)) }
+    ensures unused { LeavesOnly (D.told disk.old) (D.told disk.new) (KeepsUnused (D.told disk.old)) }
     ensures calls { (D.told disk.new).time ≤ (D.told disk.old).time + 4 }
     ensures cause { DiskBlamed result (D.faults disk.old) (D.faults disk.new) }
     ensures never_spent { IsErrOf result Why.StampsSpent → ⊥ }
@@ -37,7 +40,8 @@ pub(crate) fn load<D: Disk>(disk: &mut D) -> Result<Keeper, Why>
 
 impl Running {
     ghost use Rattle.std.specs.Prelude.{◌≡◌, ◌↔◌, ◌<◌, ◌^◌, IsErrOf, OnErr, OnOk};
-    ghost use Rattle.stamp_keep.specs.Keep.{KeepsMarks};
+    ghost use Rattle.slot_disk.specs.Calls.{LeavesOnly};
+    ghost use Rattle.stamp_keep.specs.Keep.{KeepsMarks, KeepsUnused};
     ghost use Rattle.run_deeds.specs.declared.life_end.Why.{Why};
     ghost use Rattle.run_deeds.specs.Marks.{KeepsLoadable};
     ghost use Rattle.member_run.specs.Running.{CallsWhereDue, IsGoing, IsUsedUp, RisesWhereDue, kept_of};
@@ -56,7 +60,8 @@ impl Running {
             (Reserves self.old.last (kept_of self.old) (kept_of self.new)) }
         ensures least { KeepsMarks (D.told disk.old) (D.told disk.new) }
         ensures still_loads { KeepsLoadable (D.told disk.old) (D.told disk.new) }
-        ensures most { RisesWhereDue self.old (D.told disk.new) }
+        ensures most { RisesWhereDue self.old (D.told disk.old) (D.told disk.new) }
+        ensures unused { LeavesOnly (D.told disk.old) (D.told disk.new) (KeepsUnused (D.told disk.old)) }
         ensures calls { CallsWhereDue self.old (D.told disk.old) (D.told disk.new) }
         ensures spent { IsErrOf result Why.StampsSpent
             ↔ (IsUsedUp self.old × (4294967231 < kept_of self.old)) }

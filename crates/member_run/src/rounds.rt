@@ -27,7 +27,8 @@ const TOO_BIG: u32 = 3;
 
 impl Running {
     ghost use Rattle.std.specs.Prelude.{◌↔◌, ◌<◌, ℕ, List, Option, IfErr, IsErrOf, OnOk};
-    ghost use Rattle.stamp_keep.specs.Keep.{KeepsMarks};
+    ghost use Rattle.slot_disk.specs.Calls.{LeavesOnly};
+    ghost use Rattle.stamp_keep.specs.Keep.{KeepsMarks, KeepsUnused};
     ghost use Rattle.time_machine.specs.Events.{History};
     ghost use Rattle.sntp_core.specs.Standing.{StandsForHistory, conf_of};
     ghost use Rattle.run_deeds.specs.declared.life_end.Why.{Why};
@@ -76,7 +77,8 @@ impl Running {
             → (D.told disk.new).time ≡ (D.told disk.old).time }
         ensures calls { CallsWhereDue self.old (D.told disk.old) (D.told disk.new) }
         ensures least { KeepsMarks (D.told disk.old) (D.told disk.new) }
-        ensures most { RisesWhereDue self.old (D.told disk.new) }
+        ensures most { RisesWhereDue self.old (D.told disk.old) (D.told disk.new) }
+        ensures unused { LeavesOnly (D.told disk.old) (D.told disk.new) (KeepsUnused (D.told disk.old)) }
         ensures still_loads { KeepsLoadable (D.told disk.old) (D.told disk.new) }
         ensures covers { Covers (D.told disk.new) (greatest_of self.new) }
         ensures never { (IsErrOf result Why.Done → ⊥) × (IsErrOf result Why.BadVersion → ⊥) }
@@ -124,7 +126,8 @@ impl Running {
             → (D.told disk.new).time ≡ (D.told disk.old).time }
         ensures calls { CallsWhereDue self.old (D.told disk.old) (D.told disk.new) }
         ensures least { KeepsMarks (D.told disk.old) (D.told disk.new) }
-        ensures most { RisesWhereDue self.old (D.told disk.new) }
+        ensures most { RisesWhereDue self.old (D.told disk.old) (D.told disk.new) }
+        ensures unused { LeavesOnly (D.told disk.old) (D.told disk.new) (KeepsUnused (D.told disk.old)) }
         ensures still_loads { KeepsLoadable (D.told disk.old) (D.told disk.new) }
         ensures covers { Covers (D.told disk.new) (greatest_of self.new) }
         ensures never { (IsErrOf result Why.Done → ⊥) × (IsErrOf result Why.BadVersion → ⊥) }

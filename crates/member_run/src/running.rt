@@ -22,10 +22,11 @@ pub struct Running {
 impl Running {
     ghost use Rattle.std.specs.Prelude.{◌≡◌, ◌↔◌, ◌+◌, ◌<◌, ◌≤◌, suc, ℕ, List, Option, IfOk, IfErr};
     ghost use Rattle.std.specs.Prelude.{IfSome, IsErrOf, OnOk};
-    ghost use Rattle.edge_traits.specs.Link.{LinkTold, ReceiptFits};
+    ghost use Rattle.edge_traits.specs.Link.{LinkCall, ReceiptFits};
     ghost use Rattle.edge_traits.specs.declared.link.Receipt.{Receipt};
     ghost use Rattle.capture_fmt.specs.declared.event.Event.{Event};
-    ghost use Rattle.stamp_keep.specs.Keep.{IsLeft, IsLoadable, KeepsMarks};
+    ghost use Rattle.slot_disk.specs.Calls.{LeavesOnly};
+    ghost use Rattle.stamp_keep.specs.Keep.{IsLeft, IsLoadable, KeepsMarks, KeepsUnused, StandsAsBefore};
     ghost use Rattle.stamp_keep.specs.Slots.{HasOtherVersion};
     ghost use Rattle.time_machine.specs.Events.{History};
     ghost use Rattle.time_machine.specs.Machine.{source_of};
@@ -33,7 +34,7 @@ impl Running {
     ghost use Rattle.run_deeds.specs.declared.life_end.Why.{Why};
     ghost use Rattle.run_deeds.specs.Counting.{ended};
     ghost use Rattle.run_deeds.specs.Devices.{faults, seen};
-    ghost use Rattle.run_deeds.specs.Marks.{AddsNoMark, Covers, KeepsLoadable};
+    ghost use Rattle.run_deeds.specs.Marks.{Covers, KeepsLoadable};
     ghost use Rattle.run_deeds.specs.Parts.{why_of};
     ghost use Rattle.run_deeds.specs.Weaving.{Need, Turns, ReceiptNow};
     ghost use Rattle.member_run.specs.Running.{CallsWhereDue, IsBegun, IsGoing, IsOfReceipt};
@@ -54,7 +55,7 @@ impl Running {
         capture: &mut O,
     ) -> Result<Running, Why>
         // Whatever the run needs behind its Life, and whatever the devices tell that are not asked.
-        ensures begins { (next : Need) (link : Option LinkTold)
+        ensures begins { (next : Need) (link : Option (List LinkCall))
             (words : Option (List ℕ)) (link_faults entropy : ℕ)
             → Begins conf next (D.told disk.old)
             (seen link (C.told clock.old) words (O.written capture.old)
@@ -68,20 +69,23 @@ impl Running {
             result }
         ensures going { IfOk result (IsGoing (D.told disk.new)) }
 
-        // A disk of another version is refused exactly where it is one, and is left as it was.
+        // A disk of another version is refused exactly where it is one, and is left as it was, as is every other device.
         ensures version { IsErrOf result Why.BadVersion
             → IfSome (D.told disk.old).content HasOtherVersion }
         ensures refused { IsErrOf result Why.BadVersion
             → IsLeft (D.told disk.old) (D.told disk.new) }
+        ensures untouched { IsErrOf result Why.BadVersion
+            → (clock.new ≡ clock.old) × (out.new ≡ out.old) × (capture.new ≡ capture.old) }
         ensures loadable { (IsErrOf result Why.BadVersion → ⊥) → (IsErrOf result Why.DiskFault → ⊥)
             → IfSome (D.told disk.old).content IsLoadable }
         ensures loaded { (IsErrOf result Why.BadVersion → ⊥) → (IsErrOf result Why.DiskFault → ⊥)
             → IsLoadedFrom (D.told disk.old) (D.told disk.new) }
 
-        // Whatever it answers, no image stands for less than one at entry, nor for a mark that none stood for there, and a
-        // load refuses none that it took at entry.
+        // Whatever it answers, no image stands for less than one at entry, and a load refuses none that it took at entry.
+        // A crash at any moment leaves a mark that an image at entry stood for, and the unused bytes of one.
         ensures least { KeepsMarks (D.told disk.old) (D.told disk.new) }
-        ensures most { AddsNoMark (D.told disk.old) (D.told disk.new) }
+        ensures any_moment { LeavesOnly (D.told disk.old) (D.told disk.new) (StandsAsBefore (D.told disk.old)) }
+        ensures unused { LeavesOnly (D.told disk.old) (D.told disk.new) (KeepsUnused (D.told disk.old)) }
         ensures still_loads { KeepsLoadable (D.told disk.old) (D.told disk.new) }
         ensures calls { (D.told disk.new).time ≤ (D.told disk.old).time + 4 }
         ensures never { IfErr result IsOfStart }
@@ -133,10 +137,12 @@ impl Running {
             → (D.told disk.new).time ≡ (D.told disk.old).time }
         ensures calls { CallsWhereDue self.old (D.told disk.old) (D.told disk.new) }
 
-        // Whatever it answers, no image stands for less than one at entry, or than the greatest count sent, nor for more
-        // than a block that was due, and a load refuses none.
+        // Whatever it answers, no image stands for less than one at entry, or than the greatest count sent, and a load
+        // refuses none. A crash at any moment leaves no more than a block that was due, and the unused bytes of an image at
+        // entry.
         ensures least { KeepsMarks (D.told disk.old) (D.told disk.new) }
-        ensures most { RisesWhereDue self.old (D.told disk.new) }
+        ensures most { RisesWhereDue self.old (D.told disk.old) (D.told disk.new) }
+        ensures unused { LeavesOnly (D.told disk.old) (D.told disk.new) (KeepsUnused (D.told disk.old)) }
         ensures still_loads { KeepsLoadable (D.told disk.old) (D.told disk.new) }
         ensures covers { Covers (D.told disk.new) (greatest_of self.new) }
         ensures never { (IsErrOf result Why.Done → ⊥) × (IsErrOf result Why.BadVersion → ⊥) }
@@ -189,7 +195,8 @@ impl Running {
             → (D.told disk.new).time ≡ (D.told disk.old).time }
         ensures calls { CallsWhereDue self.old (D.told disk.old) (D.told disk.new) }
         ensures least { KeepsMarks (D.told disk.old) (D.told disk.new) }
-        ensures most { RisesWhereDue self.old (D.told disk.new) }
+        ensures most { RisesWhereDue self.old (D.told disk.old) (D.told disk.new) }
+        ensures unused { LeavesOnly (D.told disk.old) (D.told disk.new) (KeepsUnused (D.told disk.old)) }
         ensures still_loads { KeepsLoadable (D.told disk.old) (D.told disk.new) }
         ensures covers { Covers (D.told disk.new) (greatest_of self.new) }
         ensures never { (IsErrOf result Why.Done → ⊥) × (IsErrOf result Why.BadVersion → ⊥) }

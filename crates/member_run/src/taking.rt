@@ -8,12 +8,12 @@ use run_deeds::Why;
 use sntp_core::{How, Outcome};
 
 impl Running {
-    ghost use Rattle.std.specs.Prelude.{◌≡◌, ◌∷◌, ℕ, List, Option, IfOk, OnErr, OnOk, IsTrue, Some};
+    ghost use Rattle.std.specs.Prelude.{◌≡◌, ◌∷◌, [], ℕ, List, Option, IfOk, OnErr, OnOk, IsTrue, Some};
     ghost use Rattle.std.specs.Prelude.{Err};
     ghost use Rattle.capture_fmt.specs.Event.{EventFits};
     ghost use Rattle.capture_fmt.specs.Record.{event_bytes};
-    ghost use Rattle.edge_traits.specs.Clock.{ClockTold};
-    ghost use Rattle.edge_traits.specs.Link.{LinkTold};
+    ghost use Rattle.edge_traits.specs.Clock.{ClockCall};
+    ghost use Rattle.edge_traits.specs.Link.{LinkCall};
     ghost use Rattle.time_machine.specs.Events.{History, IsRead, is_life, mark_of};
     ghost use Rattle.run_deeds.specs.declared.life_end.Why.{Why};
     ghost use Rattle.time_machine.specs.Growing.{MayFollow};
@@ -23,7 +23,7 @@ impl Running {
     ghost use Rattle.run_deeds.specs.Parts.{why_of};
     ghost use Rattle.member_run.specs.Asking.{WrittenBy};
     ghost use Rattle.member_run.specs.Taking.{Acts, IsCut, IsTaken, Sends, Steps, Takes};
-    ghost use Rattle.member_run.specs.Taking.{last_after, nothing};
+    ghost use Rattle.member_run.specs.Taking.{last_after};
 
     /// Takes an event: writes its record, steps the member, sends a request or corrects the clock, and prints the
     /// line. An event whose record could not be written is not taken.
@@ -43,7 +43,7 @@ impl Running {
         // No other device is asked.
         ensures takes { (words : Option (List ℕ)) (entropy disk : ℕ) (history : History)
             → StandsForHistory self.old.member history
-            → Takes (conf_of self.old.member) history event.now nothing
+            → Takes (conf_of self.old.member) history event.now []
             (seen (L.told link.old) (C.told clock.old) words (O.written capture.old)
             (O.written out.old) (L.faults link.old)
             (faults (C.faults clock.old) entropy disk (O.faults capture.old) (O.faults out.old)))
@@ -73,11 +73,11 @@ impl Running {
         requires fits { EventFits event.now }
         requires read { IsRead event.now }
         requires life { IsTrue (is_life event.now) }
-        ensures takes { (link : Option LinkTold) (clock : Option ClockTold)
+        ensures takes { (link : Option (List LinkCall)) (clock : Option (List ClockCall))
             (words : Option (List ℕ)) (link_faults clock_faults entropy disk : ℕ)
             (history : History)
             → StandsForHistory self.old.member history
-            → Takes (conf_of self.old.member) history event.now nothing
+            → Takes (conf_of self.old.member) history event.now []
             (seen link clock words (O.written capture.old) (O.written out.old) link_faults
             (faults clock_faults entropy disk (O.faults capture.old) (O.faults out.old)))
             (seen link clock words (O.written capture.new) (O.written out.new) link_faults

@@ -1,6 +1,8 @@
-use Rattle.std.proofs.Common.{◌≡◌, Err, ap}
+use Rattle.std.proofs.Common.{◌≡◌, Err, ap, refl}
 use Rattle.run_deeds.specs.declared.life_end.Why.TheVariants.{BadVersion, DiskFault}
 use Rattle.run_deeds.specs.Weaving.{Call, Turns}
+use Rattle.member_run.specs.Running.{totals_of}
+use Rattle.member_run.proofs.Writes.{closes_version}
 use Rattle.member_run.proofs.Living.{lives_closed, lives_never, lives_stopped}
 use Rattle.member_run.proofs.Causes.{none_blamed, none_fell}
 use Rattle.member_run.proofs.Enough.{done_within}
@@ -15,26 +17,26 @@ returns-in-Err-clause-lives g c =
     (e.begins Call (g.L.Link.told c.args.link.now) (g.E.Entropy.words c.args.entropy.now) (g.L.Link.faults c.args.link.now) (g.E.Entropy.faults c.args.entropy.now))
     (λ is. e.version (ap Err is)) (λ is. e.refused (ap Err is))
     (λ version fault. e.loadable (λ is. version (let same : c.in-Err.why ≡ BadVersion = cc in same)) (λ is. fault (let same : c.in-Err.why ≡ DiskFault = cc in same)))
-    e.calls e.least e.still_loads e.most
+    e.calls e.least e.still_loads e.any_moment e.unused
     (λ version fault. e.loaded (λ is. version (let same : c.in-Err.why ≡ BadVersion = cc in same)) (λ is. fault (let same : c.in-Err.why ≡ DiskFault = cc in same))))
 
 pub returns-in-Err-clause-complete : goal.returns-in-Err-clause-complete
-returns-in-Err-clause-complete g c = let l = returns-in-Err-clause-lives g c in none_blamed _ l.ending l.need _ _ l.ends
+returns-in-Err-clause-complete g c = let l = returns-in-Err-clause-lives g c in none_blamed _ l.woven.ending l.woven.need _ _ l.ended.ends
 
 pub returns-in-Err-clause-enough : goal.returns-in-Err-clause-enough
 returns-in-Err-clause-enough g c = done_within c.args.conf c.args.turns _ _ _ _ _ (returns-in-Err-clause-lives g c)
 
 pub returns-in-Err-clause-clock_count : goal.returns-in-Err-clause-clock_count
-returns-in-Err-clause-clock_count g c = let l = returns-in-Err-clause-lives g c in (none_fell _ l.ending l.need _ _ l.ends).clock
+returns-in-Err-clause-clock_count g c = let l = returns-in-Err-clause-lives g c in (none_fell _ l.woven.ending l.woven.need _ _ l.ended.ends).clock
 
 pub returns-in-Err-clause-disk_count : goal.returns-in-Err-clause-disk_count
-returns-in-Err-clause-disk_count g c = let l = returns-in-Err-clause-lives g c in (none_fell _ l.ending l.need _ _ l.ends).disk
+returns-in-Err-clause-disk_count g c = let l = returns-in-Err-clause-lives g c in (none_fell _ l.woven.ending l.woven.need _ _ l.ended.ends).disk
 
 pub returns-in-Err-clause-out_count : goal.returns-in-Err-clause-out_count
-returns-in-Err-clause-out_count g c = let l = returns-in-Err-clause-lives g c in (none_fell _ l.ending l.need _ _ l.ends).out
+returns-in-Err-clause-out_count g c = let l = returns-in-Err-clause-lives g c in (none_fell _ l.woven.ending l.woven.need _ _ l.ended.ends).out
 
 pub returns-in-Err-clause-capture_count : goal.returns-in-Err-clause-capture_count
-returns-in-Err-clause-capture_count g c = let l = returns-in-Err-clause-lives g c in (none_fell _ l.ending l.need _ _ l.ends).capture
+returns-in-Err-clause-capture_count g c = let l = returns-in-Err-clause-lives g c in (none_fell _ l.woven.ending l.woven.need _ _ l.ended.ends).capture
 
 pub returns-clause-lives : goal.returns-clause-lives
 returns-clause-lives g c =
@@ -51,27 +53,70 @@ returns-clause-lives g c =
       | in-Ok-turned w ↦
           rw (w.ended-is, w.out-is)
           (lives_closed c.args.conf c.args.turns entry mid exit _ _ _ _ _ _ _ _ _ _ _ _ _ _ _ running after _ begun e.going w.in-Ok-turned.ensures.turns
-          loads e.calls e.least w.in-Ok-turned.ensures.least e.still_loads w.in-Ok-turned.ensures.still_loads w.in-Ok-turned.ensures.covers w.in-Ok-turned.ensures.going w.close-ended.ensures)
+          (record {
+            loads = loads;
+            start = e.calls;
+            first = e.least;
+            next = w.in-Ok-turned.ensures.least;
+            loads_first = e.still_loads;
+            loads_next = w.in-Ok-turned.ensures.still_loads;
+            stands = e.any_moment;
+            unused_first = e.unused;
+            unused_next = w.in-Ok-turned.ensures.unused;
+            is_mid = g.D.Disk.is_disk c.start.new.disk;
+            is_exit = g.D.Disk.is_disk c.take_turns-turned.new.disk;
+          })
+          w.in-Ok-turned.ensures.covers w.in-Ok-turned.ensures.going w.close-ended.ensures)
       | in-Err-turned w ↦
           rw (w.ended-is, w.out-is)
           (lives_stopped c.args.conf c.args.turns entry mid exit _ _ _ running after w.in-Err-turned.why (λ is. w.in-Err-turned.ensures.never.0 (ap Err is)) begun e.going w.in-Err-turned.ensures.turns
-          loads e.calls e.least w.in-Err-turned.ensures.least e.still_loads w.in-Err-turned.ensures.still_loads w.in-Err-turned.ensures.covers)
+          (record {
+            loads = loads;
+            start = e.calls;
+            first = e.least;
+            next = w.in-Err-turned.ensures.least;
+            loads_first = e.still_loads;
+            loads_next = w.in-Err-turned.ensures.still_loads;
+            stands = e.any_moment;
+            unused_first = e.unused;
+            unused_next = w.in-Err-turned.ensures.unused;
+            is_mid = g.D.Disk.is_disk c.start.new.disk;
+            is_exit = g.D.Disk.is_disk c.take_turns-turned.new.disk;
+          })
+          w.in-Err-turned.ensures.covers)
     ])
 
 pub returns-clause-complete : goal.returns-clause-complete
-returns-clause-complete g c = let l = returns-clause-lives g c in none_blamed _ l.ending l.need _ _ l.ends
+returns-clause-complete g c = let l = returns-clause-lives g c in none_blamed _ l.woven.ending l.woven.need _ _ l.ended.ends
 
 pub returns-clause-enough : goal.returns-clause-enough
 returns-clause-enough g c = done_within c.args.conf c.args.turns _ _ _ _ _ (returns-clause-lives g c)
 
 pub returns-clause-clock_count : goal.returns-clause-clock_count
-returns-clause-clock_count g c = let l = returns-clause-lives g c in (none_fell _ l.ending l.need _ _ l.ends).clock
+returns-clause-clock_count g c = let l = returns-clause-lives g c in (none_fell _ l.woven.ending l.woven.need _ _ l.ended.ends).clock
 
 pub returns-clause-disk_count : goal.returns-clause-disk_count
-returns-clause-disk_count g c = let l = returns-clause-lives g c in (none_fell _ l.ending l.need _ _ l.ends).disk
+returns-clause-disk_count g c = let l = returns-clause-lives g c in (none_fell _ l.woven.ending l.woven.need _ _ l.ended.ends).disk
 
 pub returns-clause-out_count : goal.returns-clause-out_count
-returns-clause-out_count g c = let l = returns-clause-lives g c in (none_fell _ l.ending l.need _ _ l.ends).out
+returns-clause-out_count g c = let l = returns-clause-lives g c in (none_fell _ l.woven.ending l.woven.need _ _ l.ended.ends).out
 
 pub returns-clause-capture_count : goal.returns-clause-capture_count
-returns-clause-capture_count g c = let l = returns-clause-lives g c in (none_fell _ l.ending l.need _ _ l.ends).capture
+returns-clause-capture_count g c = let l = returns-clause-lives g c in (none_fell _ l.woven.ending l.woven.need _ _ l.ended.ends).capture
+
+pub returns-in-Err-clause-untouched : goal.returns-in-Err-clause-untouched
+returns-in-Err-clause-untouched g c =
+    rw c.nothing.ensures
+    (λ is.
+    let left = c.in-Err.ensures.untouched (ap Err is) in
+    (refl, left.0, refl, left.1, left.2))
+
+pub returns-clause-untouched : goal.returns-clause-untouched
+returns-clause-untouched g c =
+    rw c.end_of.ensures
+    (λ is.
+    absurd
+    (elim c.match-turned.branch [
+      | in-Ok-turned w ↦ closes_version (totals_of c.take_turns-turned.new.self) _ _ _ _ _ w.close-ended.ensures (rw w.ended-is at is)
+      | in-Err-turned w ↦ w.in-Err-turned.ensures.never.1 (let version = rw w.ended-is at is in ap Err version)
+    ]))

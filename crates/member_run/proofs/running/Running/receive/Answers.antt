@@ -12,7 +12,7 @@ returns-in_err-arrive-in-Got-clause-part g c =
     rw (p.1, p.2, kept)
     (λ left words entropy disk history stands.
     got_part _ (ReceiptNow left) (ReadingFor left c.in-Got.from c.in-Got.bytes) (Turns left) history c.arrive.new.self.member c.in-Got.from c.in-Got.bytes _ _ _ words _ _ _ _ _ _ _ _ _ _
-    c.in-Got.ensures.gives c.in-Got.ensures.cause tt (gets none) (λ time. gets (arrives none)) (λ time. tt)
+    c.in-Got.ensures.gives c.in-Got.ensures.cause tt (gets none) (λ time cs ls need s. gets (arrives s)) (λ time. tt)
     (c.in_err-arrive-in-Got.ensures.takes words entropy disk history stands))
 
 pub returns-in_ok-arrive-in-Got-clause-part : goal.returns-in_ok-arrive-in-Got-clause-part
@@ -21,7 +21,7 @@ returns-in_ok-arrive-in-Got-clause-part g c =
     rw kept
     (λ left words entropy disk history stands.
     got_part _ (ReceiptNow left) (ReadingFor left c.in-Got.from c.in-Got.bytes) (Turns left) history c.arrive.new.self.member c.in-Got.from c.in-Got.bytes _ _ _ words _ _ _ _ _ _ _ _ _ _
-    c.in-Got.ensures.gives c.in-Got.ensures.cause tt (gets none) (λ time. gets (arrives none)) (λ time. tt)
+    c.in-Got.ensures.gives c.in-Got.ensures.cause tt (gets none) (λ time cs ls need s. gets (arrives s)) (λ time. tt)
     (c.in_ok-arrive-in-Got.ensures.takes words entropy disk history stands))
 
 pub returns-in-Quiet-clause-part : goal.returns-in-Quiet-clause-part

@@ -60,7 +60,7 @@ returns-in_err-take-clause-part g c =
     (λ wait history stands.
     let takes = rw (time, member, totals) at c.in_err-take.ensures.takes (g.E.Entropy.words c.draw.new.entropy) (g.E.Entropy.faults c.draw.new.entropy) (g.D.Disk.faults c.ensure_count.new.disk) history stands in
     takes_drawn _ (CallReading wait c.args.flags) (behind_request wait) history (Resync c.in_ok-now.now c.in_ok-word.word c.args.flags) c.take.new.self.member _ _ _ _ _ _ _ _ _ _ _ _ _ _ _ _ _ _ _ _ _ _ c.in_ok-now.now c.in_ok-word.word
-    read.0 read.1 drew.1 drew.2 c.in_ok-ensure_count.ensures.cause takes (call_reads (call_draws none))
+    read.0 read.1 drew.1 drew.2 c.in_ok-ensure_count.ensures.cause takes (λ cs ls need s. call_reads (call_draws s))
     (call_behind c.in_ok-now.now c.in_ok-word.word c.args.flags wait)
     (asks_reserved c.args.self.now.member history (Resync c.in_ok-now.now c.in_ok-word.word c.args.flags) _ _ _ refl stands c.requires.going.begun.last c.in_ok-ensure_count.ensures.reserves))
 
@@ -76,7 +76,7 @@ returns-clause-part g c =
     (λ wait history stands.
     let takes = rw (time, member, totals) at c.in_ok-take.ensures.takes (g.E.Entropy.words c.draw.new.entropy) (g.E.Entropy.faults c.draw.new.entropy) (g.D.Disk.faults c.ensure_count.new.disk) history stands in
     takes_drawn _ (CallReading wait c.args.flags) (behind_request wait) history (Resync c.in_ok-now.now c.in_ok-word.word c.args.flags) c.take.new.self.member _ _ _ _ _ _ _ _ _ _ _ _ _ _ _ _ _ _ _ _ _ _ c.in_ok-now.now c.in_ok-word.word
-    read.0 read.1 drew.1 drew.2 c.in_ok-ensure_count.ensures.cause takes (call_reads (call_draws none))
+    read.0 read.1 drew.1 drew.2 c.in_ok-ensure_count.ensures.cause takes (λ cs ls need s. call_reads (call_draws s))
     (call_behind c.in_ok-now.now c.in_ok-word.word c.args.flags wait)
     (asks_reserved c.args.self.now.member history (Resync c.in_ok-now.now c.in_ok-word.word c.args.flags) _ _ _ refl stands c.requires.going.begun.last c.in_ok-ensure_count.ensures.reserves))
 

@@ -1,15 +1,17 @@
 use Rattle.std.proofs.Common.{Err, ap, arith}
 use Rattle.std.proofs.lemmas.Result.{err_from_is_err_and}
+use Rattle.member_run.proofs.Leaving.{unused_then}
 use Rattle.member_run.proofs.Turning.{goes_none, goes_on, goes_stop, goes_whole, going_covers, loads_then, marks_then}
 use Rattle.member_run.proofs.running.Running.take_turns.Goals as goal
 
 pub loop-init : goal.loop-init
-loop-init g c = goes_none c.args.turns c.args.self.now (g.D.Disk.told c.args.disk.now) _ c.requires.going
+loop-init g c = goes_none c.args.turns c.args.self.now (g.D.Disk.told c.args.disk.now) _ (g.D.Disk.is_disk c.args.disk.now) c.requires.going
 
 pub loop-preserved : goal.loop-preserved
 loop-preserved g c =
     goes_on c.args.turns c.loop.counter c.args.self.now c.loop.self c.turn.new.self _ _ _ _ _ _ c.loop-test.true c.loop.invariant
-    c.in_ok-turn.ensures.part c.in_ok-turn.ensures.going c.in_ok-turn.ensures.calls c.in_ok-turn.ensures.least c.in_ok-turn.ensures.still_loads
+    c.in_ok-turn.ensures.part c.in_ok-turn.ensures.going c.in_ok-turn.ensures.calls c.in_ok-turn.ensures.most c.in_ok-turn.ensures.least c.in_ok-turn.ensures.still_loads
+    (g.D.Disk.is_disk c.loop.disk) c.in_ok-turn.ensures.unused
 
 pub returns-in_err-turn-clause-turns : goal.returns-in_err-turn-clause-turns
 returns-in_err-turn-clause-turns g c =
@@ -32,3 +34,6 @@ returns-in_err-turn-clause-least g c = marks_then c.loop.invariant.least c.in_er
 
 pub returns-in_err-turn-clause-still_loads : goal.returns-in_err-turn-clause-still_loads
 returns-in_err-turn-clause-still_loads g c = loads_then c.loop.invariant.loads c.in_err-turn.ensures.still_loads
+
+pub returns-in_err-turn-clause-unused : goal.returns-in_err-turn-clause-unused
+returns-in_err-turn-clause-unused g c = unused_then (g.D.Disk.is_disk c.loop.disk) c.loop.invariant.unused c.in_err-turn.ensures.unused

@@ -60,7 +60,7 @@ returns-in_err-take-clause-part g c =
     (λ left history stands.
     let takes = rw (time, member, totals) at c.in_err-take.ensures.takes (g.E.Entropy.words c.draw.new.entropy) (g.E.Entropy.faults c.draw.new.entropy) (g.D.Disk.faults c.ensure_count.new.disk) history stands in
     takes_drawn _ (Turns (suc left)) (ReceiptNow left) history (Tick c.in_ok-now.now c.in_ok-word.word) c.take.new.self.member _ _ _ _ _ _ _ _ _ _ _ _ _ _ _ _ _ _ _ _ _ _ c.in_ok-now.now c.in_ok-word.word
-    read.0 read.1 drew.1 drew.2 c.in_ok-ensure_count.ensures.cause takes (reads (draws none)) tt
+    read.0 read.1 drew.1 drew.2 c.in_ok-ensure_count.ensures.cause takes (λ cs ls need s. reads (draws s)) tt
     (asks_reserved c.args.self.now.member history (Tick c.in_ok-now.now c.in_ok-word.word) _ _ _ refl stands c.requires.going.begun.last c.in_ok-ensure_count.ensures.reserves))
 
 pub returns-clause-part : goal.returns-clause-part
@@ -75,7 +75,7 @@ returns-clause-part g c =
     (λ left history stands.
     let takes = rw (time, member, totals) at c.in_ok-take.ensures.takes (g.E.Entropy.words c.draw.new.entropy) (g.E.Entropy.faults c.draw.new.entropy) (g.D.Disk.faults c.ensure_count.new.disk) history stands in
     takes_drawn _ (Turns (suc left)) (ReceiptNow left) history (Tick c.in_ok-now.now c.in_ok-word.word) c.take.new.self.member _ _ _ _ _ _ _ _ _ _ _ _ _ _ _ _ _ _ _ _ _ _ c.in_ok-now.now c.in_ok-word.word
-    read.0 read.1 drew.1 drew.2 c.in_ok-ensure_count.ensures.cause takes (reads (draws none)) tt
+    read.0 read.1 drew.1 drew.2 c.in_ok-ensure_count.ensures.cause takes (λ cs ls need s. reads (draws s)) tt
     (asks_reserved c.args.self.now.member history (Tick c.in_ok-now.now c.in_ok-word.word) _ _ _ refl stands c.requires.going.begun.last c.in_ok-ensure_count.ensures.reserves))
 
 pub returns-clause-going : goal.returns-clause-going
