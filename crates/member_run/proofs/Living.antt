@@ -10,7 +10,6 @@ use Rattle.base_specs.specs.Told.{Added, Grew}
 use Rattle.base_specs.proofs.Telling.{added_more}
 use Rattle.line_text.specs.Text.{joined}
 use Rattle.edge_traits.specs.declared.link.Receipt.{Receipt}
-use Rattle.edge_traits.specs.declared.link.Tried.{Tried}
 use Rattle.edge_traits.specs.Clock.{ClockCall, moves_among, readings_among}
 use Rattle.edge_traits.specs.Link.{LinkCall, failed_calls, receipts_among, sends_among}
 use Rattle.capture_fmt.specs.declared.event.Event.{Event}

@@ -125,7 +125,7 @@ unfoldable pub quiet_part : (conf : Conf) (from next : Need) (history : History)
 quiet_part conf from next history member link link' clock words capture out lf lf' f kept old is_set stands gave counts weaves = record {
   runs = record {
     given = record { clock = []; words = []; link = Receive Quiet ∷ [] };
-      deeds = [];
+    deeds = [];
     ending = Whole;
     need = next;
     weaves = weaves;
@@ -151,7 +151,7 @@ unfoldable pub lost_part : (conf : Conf) (from next : Need) (history : History) 
 lost_part conf from next history member link link' clock words capture out lf lf' f kept old is_set stands gave counts weaves = record {
   runs = record {
     given = record { clock = []; words = []; link = Receive Failed ∷ [] };
-      deeds = [];
+    deeds = [];
     ending = Whole;
     need = next;
     weaves = weaves;

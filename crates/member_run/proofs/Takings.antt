@@ -1,7 +1,6 @@
 -- What taking one event does, whichever call fails.
-use Rattle.std.proofs.Common.{◌≡◌, ◌<◌, ◌+◌, ℕ, List, [], ◌∷◌, length, map, take, Option, refl, sym, ◌∙◌, ap, subst, arith}
+use Rattle.std.proofs.Common.{◌≡◌, ◌<◌, ℕ, List, [], ◌∷◌, length, map, take, Option, refl, sym, ◌∙◌, ap, subst}
 use Rattle.std.proofs.lemmas.List.{append-nil}
-use Rattle.base_specs.specs.Counts.{FailsTimes}
 use Rattle.base_specs.specs.Told.{Added}
 use Rattle.base_specs.proofs.Counting.{fails_none}
 use Rattle.base_specs.proofs.Telling.{added_none, grew_none}
