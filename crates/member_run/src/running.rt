@@ -20,9 +20,11 @@ pub struct Running {
 }
 
 impl Running {
+    ghost use Rattle.std.specs.Prelude.{[], ◌∷◌};
     ghost use Rattle.std.specs.Prelude.{◌≡◌, ◌↔◌, ◌+◌, ◌<◌, ◌≤◌, suc, ℕ, List, Option, IfOk, IfErr};
     ghost use Rattle.std.specs.Prelude.{IfSome, IsErrOf, OnOk};
-    ghost use Rattle.edge_traits.specs.Link.{LinkCall, ReceiptFits};
+    ghost use Rattle.edge_traits.specs.Link.{LinkCall, Receive, ReceiptCounts, ReceiptFits};
+    ghost use Rattle.base_specs.specs.Told.{Grew};
     ghost use Rattle.edge_traits.specs.declared.link.Receipt.{Receipt};
     ghost use Rattle.capture_fmt.specs.declared.event.Event.{Event};
     ghost use Rattle.slot_disk.specs.Calls.{LeavesOnly};
@@ -148,7 +150,8 @@ impl Running {
         ensures never { (IsErrOf result Why.Done → ⊥) × (IsErrOf result Why.BadVersion → ⊥) }
     {
         self.tick(link, clock, disk, entropy, out, capture)?;
-        self.receive(link, clock, out, capture)
+        let receipt = link.recv();
+        self.receive(receipt, link, clock, out, capture)
     }
 
     /// The place in rank, from 0, of the partner whose reply was last accepted in this run.
@@ -208,19 +211,24 @@ impl Running {
         Ok(())
     }
 
-    /// The receipt of a turn, with what arrived in it.
+    /// A receipt of a turn, which the link gave at its last call: what arrived in it is taken, and any other is counted.
     pub(crate) fn receive<L: Link, C: Clock, O: Sink>(
         &mut self,
+        receipt: Receipt,
         link: &mut L,
         clock: &mut C,
         out: &mut O,
         capture: &mut O,
     ) -> Result<(), Why>
         requires begun { IsBegun self.old }
+        requires fits { ReceiptFits receipt }
         ensures part { (left : ℕ) (words : Option (List ℕ)) (entropy disk : ℕ)
+            (told : Option (List LinkCall)) (faults_told : ℕ)
+            → Grew told (L.told link.old) (Receive receipt ∷ [])
+            → ReceiptCounts receipt faults_told (L.faults link.old)
             → IsPart self.old self.new (ReceiptNow left) (Turns left)
-            (seen (L.told link.old) (C.told clock.old) words (O.written capture.old)
-            (O.written out.old) (L.faults link.old)
+            (seen told (C.told clock.old) words (O.written capture.old)
+            (O.written out.old) faults_told
             (faults (C.faults clock.old) entropy disk (O.faults capture.old) (O.faults out.old)))
             (seen (L.told link.new) (C.told clock.new) words (O.written capture.new)
             (O.written out.new) (L.faults link.new)
@@ -230,7 +238,7 @@ impl Running {
         ensures sends_none { SendsNone self.old self.new }
         ensures never { IfErr result IsOfReceipt }
     {
-        match link.recv() {
+        match receipt {
             Receipt::Got(from, bytes) => {
                 self.arrive(from, bytes, link, clock, out, capture)?;
                 Ok(())

@@ -20,7 +20,8 @@ returns-clause-part g c = λ left history stands.
     let entropy = g.E.Entropy.faults c.tick.new.entropy in
     let disk = g.D.Disk.faults c.tick.new.disk in
     part_then _ (Turns (suc left)) (ReceiptNow left) (Turns left) history _ _ _ c.tick.new.self.member c.receive.new.self.member _ _ _ _ _ _ _
-    (c.in_ok-tick.ensures.part left history stands) (λ later so. c.receive.ensures.part left words entropy disk later so)
+    (c.in_ok-tick.ensures.part left history stands) (λ later so.
+    c.receive.ensures.part left words entropy disk (g.L.Link.told c.tick.new.link) (g.L.Link.faults c.tick.new.link) c.recv-receipt.ensures.gives c.recv-receipt.ensures.cause later so)
 
 pub returns-clause-going : goal.returns-clause-going
 returns-clause-going g c =
