@@ -1,16 +1,11 @@
 #!/bin/bash
 # What an event costs a member: requests, replies of each kind, stray and forged ones, beside the digest alone.
 # Usage: bench/core.sh [ROUNDS], of 4,000 requests each; 500 where it isn't given.
-# Needs the built program: `rt run` in crates/core_bench leaves it in crates/core_bench/out/core_bench.
-set -u
-cd "$(dirname "$0")/.." || exit 1
-program=crates/core_bench/out/core_bench
+# Needs the built program: `rt run` in crates/core_bench.
+. "$(dirname "$0")/../examples/prologue.sh"
+find_proved core_bench
 rounds=${1:-500}
 requests=4000
-if [ ! -x "$program" ]; then
-    echo "bench/core.sh: build the program first (rt run in crates/core_bench)" >&2
-    exit 1
-fi
 
 # The processor's time of a run of so many rounds, in seconds.
 seconds() {
@@ -28,7 +23,7 @@ nanoseconds() {
 
 declare -A cost
 for work in ticks short extended stray forged md5 hmac; do
-    "$program" "$work" 1 >/dev/null || { echo "bench/core.sh: a run failed" >&2; exit 1; }
+    "$program" "$work" 1 >/dev/null || die "a run failed"
     cost[$work]=$(nanoseconds "$work")
 done
 awk -v t="${cost[ticks]}" -v s="${cost[short]}" -v e="${cost[extended]}" -v l="${cost[stray]}" -v f="${cost[forged]}" \

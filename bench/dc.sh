@@ -4,25 +4,13 @@
 # requests are on the way at any time. Of each kind several runs are made in turn, and the best counts.
 # Then the system calls of a request, and the memory after many and after few.
 # Usage: bench/dc.sh [REQUESTS [RUNS]]; 100,000 and 5 where they aren't given.
-# Needs gcc and the built program: `rt run` in crates/w32tm leaves it in crates/w32tm/out/w32tm. Calls are counted where
-# strace is. It ends by itself.
-set -u
-cd "$(dirname "$0")/.." || exit 1
-program=crates/w32tm/out/w32tm
+# Needs gcc and the proved program: `rt run` in crates/w32tm. Calls are counted where strace is. It ends by itself.
+. "$(dirname "$0")/../examples/prologue.sh"
+find_proved w32tm
 requests=${1:-100000}
 runs=${2:-5}
 window=32
-PATH=$PATH:/usr/sbin
-if [ ! -x "$program" ]; then
-    echo "bench/dc.sh: build the program first (rt run in crates/w32tm)" >&2
-    exit 1
-fi
-if ! command -v gcc >/dev/null; then
-    echo "bench/dc.sh: skipped, no gcc"
-    exit 0
-fi
-folder=$(mktemp -d) || exit 1
-trap 'jobs -pr | xargs -r kill; rm -rf "$folder"' EXIT
+command -v gcc >/dev/null || skip "no gcc"
 for tool in dc_load udp_echo; do
     gcc -O2 -Wall -o "$folder/$tool" "bench/$tool.c" || exit 1
 done
@@ -49,13 +37,6 @@ cp examples/request.bin "$folder/68"
     head -c 64 /dev/zero
 } >"$folder/120"
 
-# A UDP port is free where the kernel's list doesn't have it.
-is_taken() { grep -q "$(printf ':%04X ' "$1")" /proc/net/udp; }
-free_port() {
-    port=12300
-    while is_taken $port; do port=$((port + 1)); done
-}
-
 # Starts a server on $port for so many turns, as $server.
 serve() {
     free_port
@@ -72,9 +53,7 @@ serve() {
         ;;
     esac
     server=$!
-    for _ in $(seq 200); do is_taken $port && return 0; sleep 0.05; done
-    echo "bench/dc.sh: $1 opened no port" >&2
-    exit 1
+    wait_for_port $port || die "$1 opened no port"
 }
 
 # One run: a server, so many requests of so many bytes, and the four numbers of dc_load as $wall, $took, $memory, $lost.
@@ -84,10 +63,7 @@ run() {
     read -r wall took memory lost <"$folder/numbers"
     [ "$1" = chronyd ] && kill "$server"
     wait "$server"
-    if [ "$lost" != 0 ]; then
-        echo "bench/dc.sh: $1 left $lost requests of $2 bytes without a reply" >&2
-        exit 1
-    fi
+    [ "$lost" = 0 ] || die "$1 left $lost requests of $2 bytes without a reply"
 }
 
 declare -A least_wall least_took

@@ -36,7 +36,7 @@ static uint64_t nanoseconds(void)
     return now.tv_sec * UINT64_C(1000000000) + now.tv_nsec;
 }
 
-/* The first number behind a word in a file of /proc/PROCESS; the word may be empty. */
+/* The first number after a word in a file of /proc/PROCESS; the word may be empty. */
 static uint64_t number_of(const char *process, const char *name, const char *word)
 {
     char path[64], line[256];

@@ -6,26 +6,17 @@
 # OpenSSL's EVP interface, which gets 64 and 176 bytes at a time; and to the blocks that it hashes where it gets 16384
 # bytes at a time. All is by processor time, so that a busy machine says the same.
 # Usage: bench/digests.sh
-# Needs OpenSSL's program and the built one: `rt run` in crates/digest_rate leaves it in crates/digest_rate/out/digest_rate.
-set -u
-cd "$(dirname "$0")/.." || exit 1
-program=crates/digest_rate/out/digest_rate
+# Needs OpenSSL's program and the built one: `rt run` in crates/digest_rate.
+. "$(dirname "$0")/../examples/prologue.sh"
+find_proved digest_rate
 short_count=4000000
 extended_count=400000
-if [ ! -x "$program" ]; then
-    echo "bench/digests.sh: build the program first (rt run in crates/digest_rate)" >&2
-    exit 1
-fi
-if ! command -v openssl >/dev/null; then
-    echo "bench/digests.sh: skipped, no openssl"
-    exit 0
-fi
+command -v openssl >/dev/null || skip "no openssl"
 
 # Signatures per second.
 signatures() {
     local seconds
-    seconds=$({ TIMEFORMAT=%U && time "$program" "$1" "$2" >/dev/null; } 2>&1) ||
-        { echo "bench/digests.sh: a run failed" >&2; exit 1; }
+    seconds=$({ TIMEFORMAT=%U && time "$program" "$1" "$2" >/dev/null; } 2>&1) || die "a run failed"
     awk -v count="$2" -v seconds="$seconds" 'BEGIN { printf "%d\n", count / seconds }'
 }
 # Bytes hashed per second, so many at a time: OpenSSL prints thousands.

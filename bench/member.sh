@@ -7,26 +7,16 @@
 # So that it asks in each turn and not each second, its clock goes ahead 1.1 seconds at each reading (member_clock.c).
 # Then the system calls of a turn, and the memory after few and after many.
 # Usage: bench/member.sh [TURNS [RUNS]]; 100,000 and 5 where they aren't given.
-# Needs gcc and the built program: `rt run` in crates/w32tm leaves it in crates/w32tm/out/w32tm. Calls are counted where
-# strace is. It ends by itself.
-set -u
-cd "$(dirname "$0")/.." || exit 1
-program=crates/w32tm/out/w32tm
+# Needs gcc and the proved program: `rt run` in crates/w32tm. Calls are counted where strace is. It ends by itself.
+. "$(dirname "$0")/../examples/prologue.sh"
+find_proved w32tm
 turns=${1:-100000}
 runs=${2:-5}
-if [ ! -x "$program" ]; then
-    echo "bench/member.sh: build the program first (rt run in crates/w32tm)" >&2
-    exit 1
-fi
-if ! command -v gcc >/dev/null; then
-    echo "bench/member.sh: skipped, no gcc"
-    exit 0
-fi
-folder=$(mktemp -d) || exit 1
+command -v gcc >/dev/null || skip "no gcc"
 # The keeper, the capture and the report are in memory where they can, so that no disk is measured.
 memory=$folder
 [ -w /dev/shm ] && memory=$(mktemp -d -p /dev/shm)
-trap 'jobs -pr | xargs -r kill; rm -rf "$folder" "$memory"' EXIT
+at_end() { rm -rf "$memory"; }
 gcc -O2 -Wall -o "$folder/udp_ask" bench/udp_ask.c || exit 1
 gcc -O2 -Wall -shared -fPIC -o "$folder/clock.so" bench/member_clock.c || exit 1
 
@@ -40,21 +30,15 @@ fi
 key=000102030405060708090a0b0c0d0e0f
 printf '%s\n' Name=DC1 Role=Pdc Rid=1001 "account 1001 $key" "account 1103 $key" >"$folder/dc.conf"
 
-# A UDP port is free where the kernel's list doesn't have it.
-is_taken() { grep -q "$(printf ':%04X ' "$1")" /proc/net/udp; }
-
 # A controller that answers at least so many requests, as $controller, and the settings of its member. A second in which
 # the member doesn't ask takes up a turn too.
 start_dc() {
-    port=12300
-    while is_taken $port; do port=$((port + 1)); done
+    free_port
     printf '%s\n' Name=WS1 Role=Member Rid=1103 "account 1103 $key" "computer DC1 127.0.0.1:$port S---" \
         MaxAllowedPhaseOffset=0 MinPollInterval=0 MaxPollInterval=0 >"$folder/member.conf"
     "${dc_on[@]}" "$program" "/dc:$(($1 + 500))" "/config:$folder/dc.conf" "/port:$port" >"$folder/dc" &
     controller=$!
-    for _ in $(seq 200); do is_taken $port && return 0; sleep 0.05; done
-    echo "bench/member.sh: /dc opened no port" >&2
-    exit 1
+    wait_for_port $port || die "/dc opened no port"
 }
 
 stop_dc() {
@@ -83,17 +67,15 @@ run() {
     on-disk) member_words "$2" recorded "$folder" && command=(with_clock "${words[@]}") ;;
     esac
     { time "${command[@]}" >"$memory/report" 2>"$folder/fault"; } 2>"$folder/time" ||
-        { echo "bench/member.sh: $1 ended with code $?: $(cat "$folder/fault")" >&2; exit 1; }
+        die "$1 ended with code $?: $(cat "$folder/fault")"
     local system
     read -r wall outside system < <(tr -d . <"$folder/time")
     wall=$((10#$wall)) outside=$((10#$outside)) took=$((10#$outside + 10#$system))
     case $1 in
     ask | calls) ;;
     *)
-        if ! grep -q "^total sent=$2 moved=$2 refused=0$" "$memory/report"; then
-            echo "bench/member.sh: $1: not each turn moved the clock: $(tail -n 2 "$memory/report" | tr '\n' ' ')" >&2
-            exit 1
-        fi
+        grep -q "^total sent=$2 moved=$2 refused=0$" "$memory/report" ||
+            die "$1: not each turn moved the clock: $(tail -n 2 "$memory/report" | tr '\n' ' ')"
         ;;
     esac
 }
@@ -139,7 +121,7 @@ if command -v strace >/dev/null; then
     for n in 1000 3000; do
         start_dc $n
         member_words $n recorded
-        LD_PRELOAD= strace -qq -c -o "$folder/calls$n" -E LD_PRELOAD="$folder/clock.so" "${words[@]}" >"$memory/report"
+        LD_PRELOAD="" strace -qq -c -o "$folder/calls$n" -E LD_PRELOAD="$folder/clock.so" "${words[@]}" >"$memory/report"
         stop_dc
     done
     awk -v what="2000 turns" -f bench/calls.awk "$folder/calls1000" "$folder/calls3000"

@@ -4,22 +4,17 @@
 # again a request, a forged reply to it and ten stray bytes, which are refused. Of five runs the fastest counts, by the
 # clock on the wall and by processor time, which a busy machine changes least.
 # Usage: bench/replay.sh [REQUESTS]; 33,333 where it isn't given.
-# Needs python3, GNU time and the built program: `rt run` in crates/w32tm leaves it in crates/w32tm/out/w32tm.
-set -u
-cd "$(dirname "$0")/.." || exit 1
-program=crates/w32tm/out/w32tm
+# Needs python3, GNU time and the proved program: `rt run` in crates/w32tm.
+. "$(dirname "$0")/../examples/prologue.sh"
+find_proved w32tm
 config=examples/member.conf
 requests=${1:-33333}
 tenth=$((requests / 10))
 events=$((3 * requests + 1))
-for tool in "$program" /usr/bin/time; do
-    [ -x "$tool" ] || { echo "bench/replay.sh: $tool is missing (the program: rt run in crates/w32tm)" >&2; exit 1; }
-done
-folder=$(mktemp -d) || exit 1
-trap 'rm -rf "$folder"' EXIT
+[ -x /usr/bin/time ] || skip "no /usr/bin/time"
 capture=$folder/capture
 
-# A capture of so many requests. They come at the shortest interval of the settings, and go to another of the three
+# A capture of so many requests. They come so seldom that each turn asks, and go to another of the three
 # partners after each eight.
 write_capture() {
     python3 - "$1" >"$2" <<'END'
@@ -59,7 +54,7 @@ ends_well() {
     local last
     last=$(replay "$2" | tail -n 1)
     [ "$last" = "total sent=$1 moved=0 refused=$((2 * $1))" ] && return
-    echo "bench/replay.sh: the replay of $1 requests ended otherwise: $last" >&2
+    say "the replay of $1 requests ended otherwise: $last"
     return 1
 }
 

@@ -3,16 +3,10 @@
 # and how that grows: the same with half as many lines. Each line is compared with all earlier ones of its kind.
 # All but the memory is by processor time, so that a busy machine says nearly the same; the load is printed beside it.
 # Usage: bench/settings.sh
-# Needs GNU time and the built program: `rt run` in crates/settings_bench leaves it in crates/settings_bench/out/settings_bench.
-set -u
-cd "$(dirname "$0")/.." || exit 1
-program=crates/settings_bench/out/settings_bench
-for tool in "$program" /usr/bin/time; do
-    [ -x "$tool" ] ||
-        { echo "bench/settings.sh: $tool is missing (the program: rt run in crates/settings_bench)" >&2; exit 1; }
-done
-folder=$(mktemp -d) || exit 1
-trap 'rm -r "$folder"' EXIT
+# Needs GNU time and the built program: `rt run` in crates/settings_bench.
+. "$(dirname "$0")/../examples/prologue.sh"
+find_proved settings_bench
+[ -x /usr/bin/time ] || skip "no /usr/bin/time"
 
 # A text with so many accounts and computers, all with names of their own.
 write_text() {
@@ -35,8 +29,8 @@ peak() { /usr/bin/time -f %M "$@" 2>&1 >/dev/null; }
 write_text 20000 2000 "$folder/whole"
 write_text 10000 1000 "$folder/half"
 write_text 1 0 "$folder/small"
-said=$("$program" "$folder/whole") || { echo "bench/settings.sh: a run failed" >&2; exit 1; }
-[ "$said" = "accounts=20000 computers=2000" ] || { echo "bench/settings.sh: the program said $said" >&2; exit 1; }
+said=$("$program" "$folder/whole") || die "a run failed"
+[ "$said" = "accounts=20000 computers=2000" ] || die "the program said $said"
 bytes=$(wc -c <"$folder/whole")
 # A hundred times `wc -l`, since one is too short to measure.
 lines() { for _ in $(seq 100); do wc -l "$folder/whole"; done; }

@@ -1,22 +1,17 @@
 #!/bin/bash
 # Wall time of 1,000 runs of `/sign` on the sample request beside 1,000 runs of `true`, and their ratio.
 # Usage: bench/sign.sh
-# Needs the built program: `rt run` in crates/w32tm leaves it in crates/w32tm/out/w32tm.
-set -u
-cd "$(dirname "$0")/.." || exit 1
-program=crates/w32tm/out/w32tm
+# Needs the proved program: `rt run` in crates/w32tm.
+. "$(dirname "$0")/../examples/prologue.sh"
+find_proved w32tm
 request=examples/request.bin
 word=/sign:1103:00000000000000000000000000000000
 runs=1000
-if [ ! -x "$program" ]; then
-    echo "bench/sign.sh: build the program first (rt run in crates/w32tm)" >&2
-    exit 1
-fi
 
 microseconds() {
     local begin end
     begin=$(date +%s%N)
-    "$@" || { echo "bench/sign.sh: a run failed" >&2; exit 1; }
+    "$@" || die "a run failed"
     end=$(date +%s%N)
     echo $(((end - begin) / 1000))
 }

@@ -1,44 +1,50 @@
 #!/bin/bash
-# A member keeps its time by a controller: starts `/dc` on a free port of loopback and `/member` against it, shows what
-# both print, and reads the member's capture again by `/replay`. It ends by itself, and leaves nothing behind; no clock
-# of the machine is set. Where the program isn't built yet it is proved and built first, which takes the Rattle kit and
-# some minutes.
-# Usage: examples/quickstart.sh
-set -u
-cd "$(dirname "$0")/.." || exit 1
-program=$PWD/crates/w32tm/out/w32tm
-if [ ! -x "$program" ]; then
-    echo "quickstart.sh: proving and building the program first" >&2
-    (cd crates/w32tm && rt run -- "/show:$(printf '%096d' 0)") >/dev/null || exit 1
+# A member keeps its time by a controller: starts `/dc` and `/member` on loopback, shows what both print, and reads the
+# member's capture again by `/replay`. No clock of the machine is set, it ends by itself, and it leaves nothing but the
+# program in examples/out/. The settings are those of examples/local/, on a free port.
+#
+# It takes the proved program where that is built, and else builds one without proof, which takes the Rattle kit and a
+# minute or two. With --proved it proves and builds first: the better part of an hour on a machine that has kept nothing.
+# Usage: examples/quickstart.sh [--proved]
+. "$(dirname "$0")/prologue.sh"
+
+# One line a minute: how many of these crates are proved. What the tool says is kept in a file.
+prove() {
+    local log=examples/out/prove.log tool crates ready left
+    crates=$(crates_below)
+    mkdir -p examples/out
+    say "proving $(echo "$crates" | wc -l) crates; what rt says is kept in $log"
+    (cd crates/w32tm && exec rt run -- "/show:$(printf '%096d' 0)") >"$log" 2>&1 &
+    tool=$!
+    while kill -0 $tool 2>/dev/null; do
+        ready=0 left=
+        for crate in $crates; do
+            if [ -d "crates/$crate/out/rlib" ]; then ready=$((ready + 1)); else left="$left $crate"; fi
+        done
+        say "$(date +%H:%M) $ready proved or kept; left:${left:- none, it is being linked}"
+        for _ in $(seq 60); do kill -0 $tool 2>/dev/null && sleep 1; done
+    done
+    wait $tool || die "the proof or the build failed: see $log"
+}
+
+case "${1:-}" in
+--proved) is_current "$proved" || prove ;;
+"") ;;
+*) die "usage: examples/quickstart.sh [--proved]" ;;
+esac
+find_program
+mkdir -p examples/out
+if [ "$program" = "$proved" ]; then
+    say "the program is proved: crates/w32tm/out/w32tm"
+    ln -sf "$proved" examples/out/w32tm
+else
+    say "the program, ${program#"$PWD"/}, is NOT proved; this proves and builds it: examples/quickstart.sh --proved"
 fi
 
-folder=$(mktemp -d) || exit 1
-trap 'jobs -pr | xargs -r kill; rm -rf "$folder"' EXIT
+port=12299
+free_port
+for text in dc member; do sed "s/:12300 /:$port /" "examples/local/$text.conf" >"$folder/$text.conf"; done
 cd "$folder" || exit 1
-
-# A UDP port is free where the kernel's list doesn't have it.
-is_taken() { grep -q "$(printf ':%04X ' "$1")" /proc/net/udp; }
-port=12300
-while is_taken $port; do port=$((port + 1)); done
-
-cat >dc.conf <<END_OF_TEXT
-# A controller that answers one computer, WS1.
-Name=DC1
-Role=Pdc
-Rid=1001
-account 1001 00112233445566778899aabbccddeeff
-account 1103 000102030405060708090a0b0c0d0e0f
-END_OF_TEXT
-cat >member.conf <<END_OF_TEXT
-# That computer. It asks each second; in a domain it would ask each 17 minutes, and later less often.
-Name=WS1
-Role=Member
-Rid=1103
-account 1103 000102030405060708090a0b0c0d0e0f
-computer DC1 127.0.0.1:$port S--E
-MinPollInterval=0
-MaxPollInterval=0
-END_OF_TEXT
 
 # Shows a command, and carries it out.
 run() {
@@ -50,7 +56,7 @@ run() {
 echo "\$ w32tm /dc:6 /config:dc.conf /port:$port &"
 "$program" /dc:6 /config:dc.conf "/port:$port" >dc &
 controller=$!
-for _ in $(seq 100); do is_taken $port && break; sleep 0.02; done
+wait_for_port $port
 run /member:5 /config:member.conf /keeper:keeper /capture:capture >report
 code=$?
 cat report
@@ -67,10 +73,8 @@ cat replayed
 # The capture gives the report again: all lines but that of the link, and but the line that shows the command.
 lines() { sed '1d; /^link /d' "$1"; }
 if [ $code != 0 ] || [ $dc_code != 0 ] || [ $replay_code != 0 ]; then
-    echo "quickstart.sh: /member ended with code $code, /dc with $dc_code and /replay with $replay_code" >&2
-    exit 1
+    die "/member ended with code $code, /dc with $dc_code and /replay with $replay_code"
 fi
 if ! grep -q '^moved ' report || ! cmp -s <(lines report) <(lines replayed); then
-    echo "quickstart.sh: no reply was accepted, or the capture gave another report" >&2
-    exit 1
+    die "no reply was accepted, or the capture gave another report"
 fi

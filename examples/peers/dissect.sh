@@ -2,22 +2,11 @@
 # What Wireshark's dissector reads in requests and in the replies that `/sign` writes, field by field beside the lines of
 # `/show`.
 # Usage: examples/peers/dissect.sh
-# Needs the built program (`rt run` in crates/w32tm leaves it in crates/w32tm/out/w32tm), and Debian's tshark, which brings
-# text2pcap; without these two nothing is compared.
-set -u
-cd "$(dirname "$0")/../.." || exit 1
-program=crates/w32tm/out/w32tm
+# Needs Debian's tshark, which brings text2pcap; without these two nothing is compared.
+. "$(dirname "$0")/../prologue.sh"
 word=/sign:1103:00000000000000000000000000000000
-if ! command -v tshark >/dev/null || ! command -v text2pcap >/dev/null; then
-    echo "dissect.sh: skipped, no tshark"
-    exit 0
-fi
-if [ ! -x "$program" ]; then
-    echo "dissect.sh: build the program first (rt run in crates/w32tm)" >&2
-    exit 1
-fi
-folder=$(mktemp -d) || exit 1
-trap 'rm -rf "$folder"' EXIT
+for tool in tshark text2pcap; do command -v $tool >/dev/null || skip "no $tool"; done
+find_program
 failed=0
 
 # The number of hexadecimal digits that stand for a signed number.
@@ -27,7 +16,7 @@ signed() {
 }
 
 # The bytes of hexadecimal digits, the last one first.
-turned() { echo "${1:6:2}${1:4:2}${1:2:2}${1:0:2}"; }
+reversed() { echo "${1:6:2}${1:4:2}${1:2:2}${1:0:2}"; }
 
 # A field of the dissected message: its bytes as digits, or what the dissector shows of it.
 bytes_of() { sed -n "s/.*name=\"ntp\.$1\" .* value=\"\([0-9a-f]*\)\".*/\1/p" "$folder/pdml" | head -n 1; }
@@ -37,7 +26,7 @@ compare() {
     local name=$1 ours theirs=$3
     ours=$(tr ' ' '\n' <"$folder/lines" | sed -n "s/^$2=//p")
     if [ "$ours" != "$theirs" ]; then
-        echo "dissect.sh: $name: $2: /show says '$ours', tshark '$theirs'" >&2
+        say "$name: $2: /show says '$ours', tshark '$theirs'"
         failed=1
     fi
     compared=$((compared + 1))
@@ -68,12 +57,12 @@ dissect() {
     case ${#mac} in
     0) compare "$name" tail plain ;;
     32)
-        compare "$name" keyid "$(turned "$(bytes_of keyid)")"
+        compare "$name" keyid "$(reversed "$(bytes_of keyid)")"
         compare "$name" checksum "$mac"
         ;;
     *)
         # The dissector counts the four single bytes in front of an extended checksum to it.
-        compare "$name" rid "$((16#$(turned "$(bytes_of keyid)")))"
+        compare "$name" rid "$((16#$(reversed "$(bytes_of keyid)")))"
         compare "$name" reserved "$((16#${mac:0:2}))"
         compare "$name" flags "$((16#${mac:2:2}))"
         compare "$name" hints "$((16#${mac:4:2}))"
@@ -97,5 +86,5 @@ for kind in short plain extended; do
     "$program" "$word" <"$folder/$kind" >"$folder/reply" || failed=1
     dissect "$kind reply" "$folder/reply"
 done
-[ $failed = 0 ] && echo "dissect.sh: all fields agree with $(tshark --version 2>/dev/null | head -n 1)"
+[ $failed = 0 ] && echo "$script: all fields agree with $(tshark --version 2>/dev/null | head -n 1)"
 exit $failed

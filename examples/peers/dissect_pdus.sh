@@ -3,14 +3,8 @@
 # shows to be what `write_pdu` writes, beside what that test and its neighbours expect of the reader.
 # Usage: examples/peers/dissect_pdus.sh
 # Needs Debian's tshark, which brings text2pcap; without these two nothing is compared.
-set -u
-cd "$(dirname "$0")/../.." || exit 1
-if ! command -v tshark >/dev/null || ! command -v text2pcap >/dev/null; then
-    echo "dissect_pdus.sh: skipped, no tshark"
-    exit 0
-fi
-folder=$(mktemp -d) || exit 1
-trap 'rm -rf "$folder"' EXIT
+. "$(dirname "$0")/../prologue.sh"
+for tool in tshark text2pcap; do command -v $tool >/dev/null || skip "no $tool"; done
 
 # The bytes of the constant, two digits each, on one line.
 bytes=$(sed -n '/^const SESSION/,/";$/p' crates/rpc_pdu/src/tests.rt | grep -o '\\x[0-9A-F][0-9A-F]' | tr -d '\\x\n')
@@ -35,4 +29,4 @@ cat >"$folder/ours" <<END
 2 0x03 52 0 3 0
 3 0x03 32 0 5 0 0x1c010002
 END
-diff "$folder/ours" "$folder/theirs" && echo "dissect_pdus.sh: tshark reads the same"
+diff "$folder/ours" "$folder/theirs" && echo "$script: tshark reads the same"

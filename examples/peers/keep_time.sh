@@ -8,56 +8,23 @@
 # hands its replies to a signing service, as in a Samba domain, which is signer.py too. At last chronyd has another key,
 # and nothing may be accepted.
 # Usage: examples/peers/keep_time.sh. KEEP_TIME_TURNS in the environment is the number of turns of each run, else 12.
-# Needs python3 and the built program (`rt run` in crates/w32tm leaves it in crates/w32tm/out/w32tm). Skipped without
-# Debian's chrony.
-set -u
-cd "$(dirname "$0")/../.." || exit 1
-program=crates/w32tm/out/w32tm
+# Needs python3. Skipped without Debian's chrony.
+. "$(dirname "$0")/../prologue.sh"
 peers=examples/peers
 turns=${KEEP_TIME_TURNS:-12}
-PATH=$PATH:/usr/sbin:/sbin
-if [ ! -x "$program" ]; then
-    echo "keep_time.sh: build the program first (rt run in crates/w32tm)" >&2
-    exit 1
-fi
-for tool in python3 chronyd; do
-    command -v $tool >/dev/null || { echo "keep_time.sh: skipped, no $tool"; exit 0; }
-done
-
-# A network of its own has nothing but a loopback.
-if [ "${1:-}" != inside ]; then
-    if command -v ip >/dev/null && unshare -rn ip link set lo up 2>/dev/null; then
-        exec unshare -rn "$PWD/$peers/keep_time.sh" inside
-    fi
-else
-    ip link set lo up || exit 1
-fi
-
-folder=$(mktemp -d) || exit 1
+for tool in python3 chronyd; do command -v $tool >/dev/null || skip "no $tool"; done
+find_program
+in_own_network "$@"
 chmod 755 "$folder"
-trap 'jobs -pr | xargs -r kill; rm -rf "$folder"' EXIT
 failed=0
 fail() {
-    echo "keep_time.sh: $*" >&2
+    say "$*"
     failed=1
 }
 
 rid=1103
 key=000102030405060708090a0b0c0d0e0f
 number=$((16#4f040000))
-is_taken() { grep -q "$(printf ':%04X ' "$1")" /proc/net/udp; }
-free_port() {
-    port=$((${port:-12300} + 1))
-    while is_taken $port; do port=$((port + 1)); done
-}
-wait_for_port() {
-    for _ in $(seq 200); do
-        is_taken "$1" && return 0
-        sleep 0.05
-    done
-    fail "nobody opened port $1"
-    return 1
-}
 
 # A chronyd on $server that tells the machine's time as stratum 7, with this key and these words besides.
 start_chronyd() {
@@ -115,7 +82,7 @@ start_chronyd $key
 free_port
 python3 $peers/signer.py fill "$port" "$server" $key &
 signer=$!
-wait_for_port "$port" && run_member "$port" && all_accepted
+if wait_for_port "$port"; then run_member "$port" && all_accepted; else fail "signer.py opened no port"; fi
 stop $signer $chronyd
 
 echo "== chronyd with a signing service"
@@ -142,5 +109,5 @@ fi
 replay_run
 stop $signer $chronyd
 
-[ $failed = 0 ] && echo "keep_time.sh: all agree"
+[ $failed = 0 ] && echo "$script: all agree"
 exit $failed

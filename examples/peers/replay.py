@@ -5,8 +5,8 @@ replay.py lines CONFIG CAPTURE
     Prints the lines of a capture, and ends with the code that `/replay` ends with.
 
 replay.py compare PROGRAM CONFIG CAPTURE
-    Runs the program on the capture, on each front of it, with one bit of each byte turned, joined with itself, and on
-    captures of runs that are made up, with settings of every kind; and compares lines, codes and faults. Prints how
+    Runs the program on the capture, on each prefix of it, with one bit of each byte flipped, joined with itself, and on
+    captures of random runs, with settings of every kind; and compares lines, codes and faults. Prints how
     often each line was compared.
 """
 import collections
@@ -225,10 +225,10 @@ def replay(settings, capture):
     member, lines, at, counts = Member(settings), [], 0, collections.Counter()
     try:
         while at < len(capture):
-            event, behind = event_at(capture, at)
+            event, rest = event_at(capture, at)
             if not member.admits(event):
                 raise BadCapture(at)
-            at = behind
+            at = rest
             line = member.step(event)
             if line is not None:
                 lines.append(line)
@@ -320,9 +320,9 @@ def variants(capture):
     yield capture + capture
     for size in range(len(capture)):
         yield capture[:size]
-        turned = bytearray(capture)
-        turned[size] ^= 1 << size % 8
-        yield bytes(turned)
+        flipped = bytearray(capture)
+        flipped[size] ^= 1 << size % 8
+        yield bytes(flipped)
 
 
 def kind_of(line):

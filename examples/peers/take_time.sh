@@ -3,43 +3,22 @@
 # no code with it. All of it is on loopback, where the machine allows it in a network of its own, with port 123; no
 # clock is set, and all ends by itself.
 # Usage: examples/peers/take_time.sh
-# Needs python3 and the built program (`rt run` in crates/w32tm leaves it in crates/w32tm/out/w32tm). Debian's chrony,
-# and ntpsec-ntpdig, ntpsec-ntpdate or sntp are asked where they are; what is missing is said.
-set -u
-cd "$(dirname "$0")/../.." || exit 1
-program=crates/w32tm/out/w32tm
+# Needs python3. Debian's chrony, and ntpsec-ntpdig, ntpsec-ntpdate or sntp are asked where they are; what is missing is
+# said.
+. "$(dirname "$0")/../prologue.sh"
 peers=examples/peers
-PATH=$PATH:/usr/sbin:/sbin
-if [ ! -x "$program" ]; then
-    echo "take_time.sh: build the program first (rt run in crates/w32tm)" >&2
-    exit 1
-fi
-if ! command -v python3 >/dev/null; then
-    echo "take_time.sh: skipped, no python3"
-    exit 0
-fi
-
-free_port() {
-    python3 -c 'import socket; s = socket.socket(type=socket.SOCK_DGRAM); s.bind(("", 0)); print(s.getsockname()[1])'
-}
-
-# A network of its own has nothing but a loopback.
-if [ "${1:-}" != inside ]; then
-    if command -v ip >/dev/null && unshare -rn ip link set lo up 2>/dev/null; then
-        exec unshare -rn "$PWD/$peers/take_time.sh" inside
-    fi
-    echo "take_time.sh: no network of its own here, so port 123 is left alone"
-    port=$(free_port)
-else
-    ip link set lo up || exit 1
+command -v python3 >/dev/null || skip "no python3"
+find_program
+in_own_network "$@"
+if [ "${1:-}" = inside ]; then
     port=123
+else
+    say "no network of its own here, so port 123 is left alone"
+    free_port
 fi
-
-folder=$(mktemp -d) || exit 1
-trap 'jobs -pr | xargs -r kill; rm -rf "$folder"' EXIT
 failed=0
 fail() {
-    echo "take_time.sh: $*" >&2
+    say "$*"
     failed=1
 }
 
@@ -63,15 +42,6 @@ $number MD5 HEX:$key
 $previous_number MD5 HEX:$previous
 END_OF_TEXT
 sed 's/HEX://' "$folder/keys" >"$folder/ntpsec.keys"
-
-# Waits until a UDP port is taken, for ten seconds at most.
-wait_for_port() {
-    for _ in $(seq 200); do
-        grep -q "$(printf ':%04X ' "$1")" /proc/net/udp && return 0
-        sleep 0.05
-    done
-    return 1
-}
 
 # Starts `/dc` for so many turns; its closing lines will be in $folder/dc.
 start() {
@@ -144,10 +114,11 @@ if command -v chronyd >/dev/null; then
     finish_dc
     grep -q '^signed=[1-9]' "$folder/dc" || fail "/dc signed nothing for another key"
 
-    server=$(free_port)
+    server=12400
+    while is_taken $server; do server=$((server + 1)); done
     chronyd -U -u "$(id -un)" -x -d "pidfile $folder/chronyd.pid" "cmdport 0" "bindcmdaddress /" "port $server" \
         "bindaddress 127.0.0.1" "allow 127.0.0.1" "local stratum 7" >"$folder/chronyd" 2>&1 &
-        wait_for_port "$server" || fail "chronyd opened no port: $(tail -n 1 "$folder/chronyd")"
+    wait_for_port "$server" || fail "chronyd opened no port: $(tail -n 1 "$folder/chronyd")"
     sed "s/:$port /:$server /" "$folder/dc.conf" >"$folder/chronyd.conf"
     "$program" /monitor "/config:$folder/chronyd.conf" >"$folder/said" || fail "/monitor ended with code $?"
     sed 's/^/\/monitor: /' "$folder/said"
@@ -173,5 +144,5 @@ else
     echo "== no ntpdig, ntpdate or sntp"
 fi
 
-[ $failed = 0 ] && echo "take_time.sh: all agree"
+[ $failed = 0 ] && echo "$script: all agree"
 exit $failed
