@@ -2,16 +2,8 @@
 # What the commands say where words, settings, files or ports are wrong: code and line of each case beside what
 # docs/PROTOCOL.md has. Nothing leaves the machine, and it ends by itself.
 # Usage: examples/bad_input.sh
-# Needs the built program: `rt run` in crates/w32tm leaves it in crates/w32tm/out/w32tm.
-set -u
-cd "$(dirname "$0")/.." || exit 1
-program=crates/w32tm/out/w32tm
-if [ ! -x "$program" ]; then
-    echo "bad_input.sh: build the program first (rt run in crates/w32tm)" >&2
-    exit 1
-fi
-folder=$(mktemp -d) || exit 1
-trap 'jobs -pr | xargs -r kill; rm -rf "$folder"' EXIT
+. "$(dirname "$0")/prologue.sh"
+find_program
 failed=0 cases=0
 
 # A case: the code, the line on standard error, the last line on standard output, and the words.
@@ -22,13 +14,13 @@ says() {
     "$program" "$@" >"$folder/out" 2>"$folder/fault" </dev/null
     got="code $?, '$(cat "$folder/fault")', '$(tail -n 1 "$folder/out")'"
     if [ "$got" != "code $code, '$fault', '$last'" ]; then
-        echo "bad_input.sh: $*: $got, and not code $code, '$fault', '$last'" >&2
+        say "$*: $got, and not code $code, '$fault', '$last'"
         failed=1
     fi
 }
 bad_words() { says 1 "w32tm: bad words" "" "$@"; }
 
-# A text of settings that are right, and with other lines behind them.
+# A text of settings that are right, and with other lines after them.
 settings() { printf '%s\n' Name=DC1 Role=Pdc Rid=1001 "account 1001 00112233445566778899aabbccddeeff" "$@"; }
 settings >"$folder/dc.conf"
 config=/config:$folder/dc.conf
@@ -52,10 +44,16 @@ done
 bad_words /dc:1 /port:12300
 for word in /member /member: /member:0 /member:01 /member:1000001; do bad_words $word "$config" "/keeper:$folder/keeper"; done
 for option in "" /keeper: /keeper "/keeper:$folder/a /keeper:$folder/b" "/keeper:$folder/a /capture:" \
-    "/keeper:$folder/a /port:0" "/keeper:$folder/a /rpcport:1" "/keeper:$folder/a /clock:"; do
+    "/keeper:$folder/a /port:0" "/keeper:$folder/a /rpcport:1" "/keeper:$folder/a /clock:" \
+    "/keeper:$folder/a /clock:$folder/b /clock:$folder/c"; do
     bad_words /member:1 "$config" $option
 done
 bad_words /dc:1 "$config" "/keeper:$folder/keeper"
+# What isn't built.
+for words in "/query /source" "/query /bits" /resync /service:1 /simulate:1:2 /relay:1 /vote /signd:1; do
+    bad_words $words "$config"
+done
+bad_words /query /source /bits
 bad_words /dc:1 "$config" $'/port:1\xff'
 
 # Settings, by each command that reads them.
@@ -90,11 +88,9 @@ if [ "$(id -u)" != 0 ]; then
 fi
 
 # A port that somebody has: every receive fails, and `/dc` takes its turns all the same.
-is_taken() { grep -q "$(printf ':%04X ' "$1")" /proc/net/udp; }
-port=12300
-while is_taken $port; do port=$((port + 1)); done
+free_port
 "$program" /dc:5 "$config" "/port:$port" >"$folder/first" &
-for _ in $(seq 100); do is_taken $port && break; sleep 0.02; done
+wait_for_port $port
 says 0 "" "link quiet=0 lost=1000 unsent=0" /dc:1000 "$config" "/port:$port"
 settings "computer DC1 127.0.0.1:$port S--E" >"$folder/one"
 says 0 "" "total computers=1 answered=0" /monitor "/config:$folder/one" "/port:$port"
@@ -119,6 +115,12 @@ says 4 "w32tm: read fault" "" /member:1 "/config:$folder/missing" "/keeper:$fold
 says 2 "w32tm: bad settings at line 2" "" /member:1 "/config:$folder/role" "/keeper:$folder/missing/keeper"
 says 11 "w32tm: no partner" "" /member:1 "$config" "/keeper:$folder/missing/keeper"
 for file in missing/keeper folder; do says 6 "w32tm: disk fault" "" $alone "/keeper:$folder/$file"; done
+# A file that is longer than a keeper stays as it is.
+cp examples/member.conf "$folder/settings"
+says 6 "w32tm: disk fault" "" $alone "/keeper:$folder/settings"
+cmp -s examples/member.conf "$folder/settings" || { say "/keeper: wrote over a settings text"; failed=1; }
+# A clock of which no sample can be taken isn't opened before the first correction, which doesn't come here.
+says 0 "" "link quiet=1 lost=0" $alone "$keeper" "/clock:$folder/missing"
 # A file that can't be filled up to its 256 bytes, and one that can't be written.
 says 6 "w32tm: disk fault" "" $alone /keeper:/dev/full
 if [ "$(id -u)" != 0 ]; then
@@ -140,28 +142,28 @@ for words in "/dc:1 $config /port:$port" "/monitor $config" "/replay $member" "$
     $program $words >/dev/full 2>"$folder/fault" </dev/null
     code=$?
     if [ $code != 5 ] || [ "$(cat "$folder/fault")" != "w32tm: write fault" ]; then
-        echo "bad_input.sh: $words: code $code and '$(cat "$folder/fault")' where the output is full" >&2
+        say "$words: code $code and '$(cat "$folder/fault")' where the output is full"
         failed=1
     fi
 done
 
-# Standard streams that are closed are no files of the run: its lines go nowhere, and not into the keeper's file.
-cases=$((cases + 1))
-$program $alone "$keeper" "/port:$port" <&- >&- 2>&-
-code=$?
-if [ $code != 5 ] || [ "$(wc -c <"$folder/keeper")" != 256 ] || grep -aq mark= "$folder/keeper"; then
-    echo "bad_input.sh: code $code where the standard streams are closed, or lines in the keeper's file" >&2
+# With W32TM_EXPLAIN=1 what can't be opened is named, with the reason, in a line before that of the status.
+explains() {
+    local explanation=$1 fault=$2
+    shift 2
+    cases=$((cases + 1))
+    W32TM_EXPLAIN=1 "$program" "$@" >"$folder/out" 2>"$folder/fault" </dev/null
+    printf '%s' "$explanation${fault:+$fault$'\n'}" | cmp -s - "$folder/fault" && return
+    say "W32TM_EXPLAIN=1 $*: '$(cat "$folder/fault")', and not '$explanation' and '$fault'"
     failed=1
-fi
+}
+missing="No such file or directory (os error 2)"
+explains "w32tm: $folder/missing: $missing"$'\n' "w32tm: read fault" /monitor "/config:$folder/missing"
+explains "w32tm: $folder/missing/keeper: $missing"$'\n' "w32tm: disk fault" $alone "/keeper:$folder/missing/keeper"
+"$program" /dc:3 "$config" "/port:$port" >"$folder/first" &
+wait_for_port $port
+explains "w32tm: port $port: Address already in use (os error 98)"$'\n' "" /dc:1 "$config" "/port:$port"
+explains "" "" /replay "$member"
 
-# The system's reason, where it is asked for, before the line of the status.
-cases=$((cases + 1))
-fault=$(W32TM_EXPLAIN=1 "$program" /dc:1 "/config:$folder/missing" 2>&1 >/dev/null </dev/null)
-if [ "$fault" != "w32tm: $folder/missing: No such file or directory (os error 2)
-w32tm: read fault" ]; then
-    echo "bad_input.sh: W32TM_EXPLAIN says '$fault'" >&2
-    failed=1
-fi
-
-[ $failed = 0 ] && echo "bad_input.sh: $cases cases, all as they should be"
+[ $failed = 0 ] && echo "$script: $cases cases, all as they should be"
 exit $failed
