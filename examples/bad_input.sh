@@ -165,5 +165,5 @@ wait_for_port $port
 explains "w32tm: port $port: Address already in use (os error 98)"$'\n' "" /dc:1 "$config" "/port:$port"
 explains "" "" /replay "$member"
 
-[ $failed = 0 ] && echo "$script: $cases cases, all as they should be"
+[ $failed = 0 ] && echo "$script: $cases cases, all as they should be" || say "$cases cases, not all as they should be"
 exit $failed
