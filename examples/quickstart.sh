@@ -34,7 +34,9 @@ case "${1:-}" in
 esac
 find_program
 mkdir -p examples/out
-if [ "$program" = "$proved" ]; then
+if [ -n "${W32TM:-}" ]; then
+    say "the program is $program, of which nothing is known here"
+elif [ "$program" = "$proved" ]; then
     say "the program is proved: crates/w32tm/out/w32tm"
     ln -sf "$proved" examples/out/w32tm
 else
