@@ -1,5 +1,5 @@
 #!/usr/bin/env python3
-"""Time servers for `/monitor` to ask, each with an answer of its own, right or wrong. They share no line with it.
+"""Time servers for `/monitor` and `/member` to ask, with answers right and wrong. They share no line with the program.
 
 responder.py serve CONFIG
     Opens a socket on loopback for each server, writes the settings text of a domain of them to CONFIG, and answers.
@@ -7,7 +7,13 @@ responder.py serve CONFIG
 
 responder.py judge
     Reads the lines of `/monitor` from standard input, and judges each.
+
+responder.py sign PORT KEY FILE
+    Answers members on 127.0.0.1:PORT by short messages signed under KEY (hexadecimal digits), until it is killed. FILE
+    has the number of seconds that it is ahead of this machine, and `forged` behind that where it signs under another key;
+    it is read anew for each request.
 """
+import hashlib
 import os
 import re
 import selectors
@@ -19,6 +25,8 @@ import time
 SECONDS_TO_1970 = 2_208_988_800
 TICKS = 10_000_000
 LIFE_SECONDS = 30
+# The length of a short message, in bytes.
+SHORT = 68
 
 
 def stamp(moment):
@@ -148,9 +156,25 @@ def judge():
     sys.exit(wrong)
 
 
+def sign(port, key, path):
+    opened = socket.socket(socket.AF_INET, socket.SOCK_DGRAM)
+    opened.bind(("127.0.0.1", port))
+    while True:
+        request, sender = opened.recvfrom(2048)
+        if len(request) != SHORT:
+            continue
+        with open(path) as text:
+            ahead, *forged = text.read().split()
+        header = Server("Signer", None, ahead=float(ahead)).reply(request)
+        under = bytes([key[0] ^ 1]) + key[1:] if forged else key
+        opened.sendto(header + request[48:52] + hashlib.md5(under + header).digest(), sender)
+
+
 if __name__ == "__main__":
     if len(sys.argv) == 3 and sys.argv[1] == "serve":
         serve(sys.argv[2])
+    elif len(sys.argv) == 5 and sys.argv[1] == "sign":
+        sign(int(sys.argv[2]), bytes.fromhex(sys.argv[3]), sys.argv[4])
     elif sys.argv[1:] == ["judge"]:
         judge()
     else:

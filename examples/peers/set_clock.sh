@@ -1,0 +1,157 @@
+#!/bin/bash
+# `/member /clock:` gives chronyd what it measured: a server in Python that is ahead of this machine signs (responder.py),
+# the member judges, socat hands its samples on, and `chronyd -x` says how far the clock is. That measures and doesn't touch
+# the clock. All is on loopback, in a network of its own where the machine allows it, takes no rights, and ends by itself.
+#
+# chronyd has to say 0.125 s and then 3 s, within a millisecond. A forged reply and one past MaxPosPhaseCorrection may
+# change nothing in chronyd, and under another key the source has to stay unreachable.
+# Usage: examples/peers/set_clock.sh. SET_CLOCK_MINUTES in the environment adds a longer run, asked each 16 s, which may
+# show no drift between chronyd's estimate and the server's offset.
+# Needs python3. Skipped without Debian's chrony and socat.
+. "$(dirname "$0")/../prologue.sh"
+for tool in python3 chronyd chronyc socat; do command -v $tool >/dev/null || skip "no $tool"; done
+find_program
+"$program" /member:1 /config:/dev/null "/keeper:$folder/none" "/clock:$folder/none" >/dev/null 2>&1
+[ $? != 1 ] || skip "$program has no /clock:"
+in_own_network "$@"
+chmod 755 "$folder"
+failed=0
+fail() {
+    say "$*"
+    failed=1
+}
+
+rid=1103
+key=000102030405060708090a0b0c0d0e0f
+stop() { kill "$@" 2>/dev/null; wait "$@" 2>/dev/null; }
+# Tries each quarter of a second, for so many seconds.
+wait_until() {
+    local quarters=$(($1 * 4))
+    shift
+    for _ in $(seq $quarters); do
+        "$@" && return 0
+        sleep 0.25
+    done
+    return 1
+}
+
+# The server, chronyd and socat. chronyd looks at its samples each 2^$1 seconds, and keeps a line of each.
+start_chain() {
+    free_port
+    server=$port
+    python3 examples/peers/responder.py sign "$server" $key "$folder/ahead" &
+    responder=$!
+    wait_for_port "$server" || fail "the server didn't open its port"
+    rm -rf "$folder/log" "$folder/fifo" "$folder/socket"
+    free_port
+    chronyd -U -u "$(id -un)" -x -d "pidfile $folder/chronyd.pid" "port 0" "cmdport $port" "bindcmdaddress 127.0.0.1" \
+        "bindcmdaddress /" "logdir $folder/log" "log refclocks" \
+        "refclock SOCK $folder/socket refid AD poll $1 filter 1 precision 1e-4 delay 1e-3" >"$folder/chronyd" 2>&1 &
+    chronyd=$!
+    wait_until 10 test -S "$folder/socket" || fail "chronyd: $(tail -n 1 "$folder/chronyd")"
+    mkfifo "$folder/fifo"
+    socat -u -b40 "PIPE:$folder/fifo" "UNIX-SENDTO:$folder/socket" &
+    socat=$!
+}
+stop_chain() { stop $socat $chronyd $responder; }
+
+# The member in the background, with this key and poll exponent, for a million turns.
+start_member() {
+    cat >"$folder/member.conf" <<END_OF_TEXT
+Name=WS1
+Role=Member
+Rid=$rid
+account $rid $1
+computer DC1 127.0.0.1:$server S---
+MaxPosPhaseCorrection=100
+MinPollInterval=$2
+MaxPollInterval=$2
+END_OF_TEXT
+    : >"$folder/report"
+    "$program" /member:1000000 "/config:$folder/member.conf" "/keeper:$folder/keeper" "/clock:$folder/fifo" \
+        >"$folder/report" &
+    member=$!
+}
+
+ask() { chronyc -h 127.0.0.1 -p "$port" -c "$@"; }
+# By how much chronyd says that the machine's clock is behind, and what is left of that in its samples.
+behind() { ask tracking | cut -d , -f 5; }
+rest() { ask sourcestats | cut -d , -f 7; }
+samples() { cat "$folder"/log/refclocks* 2>/dev/null | grep -c ' AD  *[0-9]'; }
+reports() { grep -c "^$1" "$folder/report"; }
+is_near() { python3 -c 'import sys; a, b = map(float, sys.argv[1:]); sys.exit(abs(a - b) > 0.001)' "$1" "$2"; }
+says() { is_near "$(behind)" "$1" && is_near "$(rest)" 0; }
+
+# The server is ahead by so many seconds from now on, and chronyd has to come to that.
+settle() {
+    echo "$1" >"$folder/ahead"
+    if wait_until 60 says "$1"; then
+        echo "the server is $1 s ahead: chronyd says $(behind) s, and $(rest) s more by its samples"
+    else
+        fail "$1 s ahead: chronyd says $(ask tracking), $(ask sourcestats)"
+    fi
+}
+
+# The server answers so from now on, which is refused for this reason; chronyd may see nothing of it.
+refused() {
+    local before after told
+    told=$(reports "refused reason=$2")
+    echo "$1" >"$folder/ahead"
+    has_refused() { [ "$(reports "refused reason=$1")" -ge "$2" ]; }
+    wait_until 20 has_refused "$2" $((told + 1)) || fail "no reply was refused by $2"
+    before="$(samples) $(behind)"
+    wait_until 20 has_refused "$2" $((told + 4)) || fail "no more replies were refused by $2"
+    after="$(samples) $(behind)"
+    if [ "${before% *}" = "${after% *}" ] && is_near "${before#* }" "${after#* }"; then
+        echo "the server says $1: $2 three times more, ${after% *} samples as before, and chronyd says ${after#* } s"
+    else
+        fail "$2: chronyd had $before, and has $after (samples, seconds)"
+    fi
+}
+
+echo "== $(chronyd -v | cut -d ' ' -f 1-4), a server ahead of this machine"
+echo 0.125 >"$folder/ahead"
+start_chain 0
+start_member $key 0
+settle 0.125
+refused "0.125 forged" BadDigest
+refused 200 TooBig
+settle 3
+stop $member
+stop_chain
+
+echo "== a member with another key"
+echo 0.125 >"$folder/ahead"
+start_chain 0
+start_member "ff${key:2}" 0
+refuses_often() { [ "$(reports 'refused reason=BadDigest')" -ge 5 ]; }
+wait_until 20 refuses_often || fail "replies under another key weren't refused"
+reach=$(ask sources | cut -d , -f 6)
+if [ "$(reports moved)" = 0 ] && [ "$reach" = 0 ] && [ "$(samples)" = 0 ]; then
+    echo "refused by BadDigest five times: chronyd has no sample, and its source's reach is $reach"
+else
+    fail "another key: reach $reach, $(samples) samples, $(reports moved) moves"
+fi
+stop $member
+stop_chain
+
+# A longer run: each minute what chronyd says, less what the server is ahead.
+if [ -n "${SET_CLOCK_MINUTES:-}" ]; then
+    echo "== $SET_CLOCK_MINUTES minutes, asked each 16 s, 0.125 s ahead: what chronyd says less 0.125 s, each minute, in microseconds"
+    start_chain 4
+    start_member $key 4
+    wait_until 120 says 0.125 || fail "chronyd says $(behind) after two minutes"
+    for _ in $(seq "$SET_CLOCK_MINUTES"); do
+        sleep 60
+        said=$(behind)
+        is_near "$said" 0.125 || fail "chronyd says $said"
+        python3 -c 'import sys; print(round((float(sys.argv[1]) - 0.125) * 1e6), end=" ", flush=True)' "$said"
+    done
+    echo
+    echo "$(reports moved) replies were accepted, and chronyd has $(samples) samples; $(ask sourcestats)"
+    kill -0 $member || fail "the member ended"
+    stop $member
+    stop_chain
+fi
+[ $failed = 0 ] && echo "set_clock.sh: all agree"
+exit $failed
