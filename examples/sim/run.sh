@@ -30,7 +30,7 @@ END_OF_TEXT
 }
 settings usual 6 10 172800
 settings narrow 6 10 1800
-settings quick 1 1 172800
+settings quick 0 0 172800
 
 # One scenario: its name, the settings, the seconds of a receive without a datagram, the turns, and the words of the world
 # (sim.c). A receive takes longer than the second that the program asks for, so that a day takes fewer turns.
@@ -54,7 +54,7 @@ scenarios() {
     local ten=$((days * 5400))
     echo "== $1"
     row "" before greatest hours "last 16" last moved steps changes refused
-    scenario "10 ms off, asked each 2 s for 2 hours" quick 2 3600 off=0.01
+    scenario "10 ms off, asked each second for an hour" quick 1 7200 off=0.01 near=0.001
     scenario "10 ms off" usual 16 $ten off=0.01
     scenario "30 s off" usual 16 $ten off=30
     scenario "299 s off" usual 16 $ten off=-299
