@@ -50,7 +50,7 @@ start_chain() {
     chronyd=$!
     wait_until 10 test -S "$folder/socket" || fail "chronyd: $(tail -n 1 "$folder/chronyd")"
     mkfifo "$folder/fifo"
-    socat -u -b40 "PIPE:$folder/fifo" "UNIX-SENDTO:$folder/socket" &
+    socat -u -b40 "PIPE:$folder/fifo,rdwr" "UNIX-SENDTO:$folder/socket" &
     socat=$!
 }
 stop_chain() { stop $socat $chronyd $responder; }
