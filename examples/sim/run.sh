@@ -35,18 +35,19 @@ settings quick 0 0 172800
 # One scenario: its name, the settings, the seconds of a receive without a datagram, the turns, and the words of the world
 # (sim.c). A receive takes longer than the second that the program asks for, so that a day takes fewer turns.
 scenario() {
-    local name=$1 conf=$2 wait=$3 turns=$4 code
+    local name=$1 conf=$2 wait=$3 turns=$4 code fields
     shift 4
     rm -f "$folder/keeper" "$folder/row"
     SIM="wait=$wait $*" SIM_ROW=$folder/row LD_PRELOAD=$folder/sim.so "$program" \
-        "/member:$turns" "/config:$folder/$conf.conf" "/keeper:$folder/keeper" /capture:/dev/null $clock >"$folder/report"
+        "/member:$turns" "/config:$folder/$conf.conf" "/keeper:$folder/keeper" /capture:/dev/null "${clock[@]}" >"$folder/report"
     code=$?
     if [ $code != 0 ] || [ ! -s "$folder/row" ]; then
         say "$name: /member ended with code $code"
         failed=1
         return
     fi
-    row "$name" $(cat "$folder/row")
+    read -ra fields <"$folder/row"
+    row "$name" "${fields[@]}"
 }
 row() { printf '%-41s %10s %10s %6s %10s %10s %6s %5s %7s %7s\n' "$@"; }
 
@@ -67,11 +68,11 @@ scenarios() {
     scenario "30 s off, drift, loss, DC1 dies" usual 16 $ten off=30 drift=50 jitter=0.01 loss=0.3333 dies=1:86400:345600
 }
 
-clock=
+clock=()
 scenarios "without /clock: the member's own clock, $days days"
 if [ "${1:-}" = clock ]; then
     touch "$folder/samples"
-    clock=/clock:$folder/samples
+    clock=("/clock:$folder/samples")
     scenarios "with /clock: the machine's clock, steered by the samples, $days days"
 fi
 exit $failed
