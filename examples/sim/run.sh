@@ -2,7 +2,7 @@
 # Ten days of a member in a world of its own: the program with sim.c preloaded, which has virtual time, a clock that is off
 # and drifts, and servers with delay, loss and outages. Prints a table, a line for each scenario. No clock is read or set,
 # and nothing leaves the process.
-# Usage: examples/sim/run.sh [clock]. With `clock` the member is run with /clock: too, and its samples steer the clock.
+# Usage: examples/sim/run.sh [clock]. With `clock` the member is run with /clock:, and its samples steer the machine's clock.
 # Needs a C compiler (CC in the environment, else cc). SIM_DAYS there is the number of days, else 10.
 . "$(dirname "$0")/../prologue.sh"
 compiler=${CC:-cc}
@@ -69,10 +69,11 @@ scenarios() {
 }
 
 clock=()
-scenarios "without /clock: the member's own clock, $days days"
 if [ "${1:-}" = clock ]; then
     touch "$folder/samples"
     clock=("/clock:$folder/samples")
     scenarios "with /clock: the machine's clock, steered by the samples, $days days"
+else
+    scenarios "without /clock: the member's own clock, $days days"
 fi
 exit $failed

@@ -29,8 +29,8 @@
  * counts.
  *
  * Samples for chronyd (40 bytes, struct sock_sample) steer the machine's clock as chronyd would, roughly: a sample over a
- * second among the first three is a step (makestep 1 3), and each other one is slewed at one second in twelve; what comes
- * back between two samples goes to the frequency by half.
+ * second among the first three is a step (makestep 1 3), and each other one is slewed at one second in twelve. Of what comes
+ * back between two samples a part goes to the rate: a half at most, and less where they are close.
  */
 #define _GNU_SOURCE
 #include <arpa/inet.h>
@@ -282,8 +282,9 @@ static void steer(const uint8_t *sample)
         error += offset;
         left = 0;
     } else {
+        double since = (double)(now - last) / SECOND;
         if (last)
-            frequency = clamp(frequency + (offset - left) / 2 / ((double)(now - last) / SECOND), 500e-6);
+            frequency = clamp(frequency + (offset - left) / since * fmin(0.5, since / 4096), 500e-6);
         left = offset;
     }
     last = now;
@@ -349,14 +350,12 @@ ssize_t write(int fd, const void *bytes, size_t length)
         real = (ssize_t(*)(int, const void *, size_t))dlsym(RTLD_NEXT, "write");
     if (fd == STDOUT_FILENO)
         saw_line(bytes, length);
-    else if (length == 13 && all[0] == 2)
-        saw_reading(all + 1);
-    else if (length >= 17 && all[0] == 4)
-        saw_reading(all + 1);
-    else if (length == 17 && memcmp(all, "\1W32T", 5) == 0)
-        saw_reading(all + 5);
     else if (length == 40 && (memcpy(&magic, all + 36, 4), magic == MAGIC))
         steer(all);
+    else if (length == 17 && memcmp(all, "\1W32T", 5) == 0)
+        saw_reading(all + 5);
+    else if ((length == 13 && all[0] == 2) || (length >= 17 && all[0] == 4))
+        saw_reading(all + 1);
     return real(fd, bytes, length);
 }
 
