@@ -49,7 +49,7 @@ scenario() {
     read -ra fields <"$folder/row"
     row "$name" "${fields[@]}"
 }
-row() { printf '%-41s %10s %10s %6s %10s %10s %6s %5s %7s %7s\n' "$@"; }
+row() { printf '%-42s %10s %10s %6s %10s %10s %6s %5s %7s %7s\n' "$@"; }
 
 scenarios() {
     local ten=$((days * 5400))
@@ -64,6 +64,7 @@ scenarios() {
     scenario "so, and a third of the datagrams lost" usual 16 $ten off=0.01 drift=50 jitter=0.01 loss=0.3333
     scenario "so, and DC1 dies on day 2 to 4" usual 16 $ten off=0.01 drift=50 dies=1:86400:345600
     scenario "so, and DC1 is an hour ahead from day 2 on" narrow 16 $ten off=0.01 drift=50 lies=1:86400:1e9:3600
+    scenario "so, and DC1 is 100 s ahead on day 2 to 4" usual 16 $ten off=0.01 drift=50 lies=1:86400:345600:100
     scenario "so, and DC1 has another key from day 2 on" usual 16 $ten off=0.01 drift=50 forges=1:86400:1e9
     scenario "30 s off, drift, loss, DC1 dies" usual 16 $ten off=30 drift=50 jitter=0.01 loss=0.3333 dies=1:86400:345600
 }
