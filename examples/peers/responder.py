@@ -10,8 +10,8 @@ responder.py judge
 
 responder.py sign PORT KEY FILE
     Answers members on 127.0.0.1:PORT by short messages signed under KEY (hexadecimal digits), until it is killed. FILE
-    has the number of seconds that it is ahead of this machine, and `forged` behind that where it signs under another key;
-    it is read anew for each request.
+    has the number of seconds that it is ahead of this machine, and then `forged` where it signs under another key. It is
+    read anew for each request.
 """
 import hashlib
 import os
