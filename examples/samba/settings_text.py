@@ -16,7 +16,8 @@ import tempfile
 from contextlib import suppress
 
 NTP_PORT = 123
-DNS_SECONDS = 10
+DNS_SECONDS = 20
+DNS_TRY_SECONDS = 6
 LOCK_SECONDS = 60
 PROGRAM = "/usr/local/sbin/w32tm"
 
@@ -35,7 +36,8 @@ def words(description):
     parser = Words(description=description, allow_abbrev=False)
     parser.add_argument("path", metavar="PATH", help="the settings text that is written")
     parser.add_argument("--configfile", metavar="SMB.CONF", help="Samba's own settings, where they aren't the usual ones")
-    parser.add_argument("--with", dest="own_lines", metavar="FILE", help="lines of your own, which are put at the end")
+    parser.add_argument("--with", dest="own_lines", metavar="FILE",
+                        help="lines of your own, which are put at the end (PATH.own, where there is such a file)")
     parser.add_argument("--program", default=PROGRAM, metavar="PATH", help=f"the program that checks the text ({PROGRAM})")
     parser.add_argument("--wait", type=int, default=LOCK_SECONDS, metavar="N",
                         help=f"the seconds that a locked database is waited for ({LOCK_SECONDS})")
@@ -98,6 +100,10 @@ def within(seconds, sentence, question):
     return value
 
 
+def no_answer(name, seconds):
+    return f"Samba's {name} gave no answer in {seconds} seconds: another process has locked it, or the machine is busy"
+
+
 def answer(seconds, question, writer):
     # Samba's libraries write lines of their own, which would hide the one that counts.
     silence = os.open(os.devnull, os.O_WRONLY)
@@ -153,8 +159,10 @@ def records(name, kind):
     import dns.exception
     import dns.resolver
 
+    resolver = dns.resolver.Resolver()
+    resolver.timeout = DNS_TRY_SECONDS
     try:
-        return list(dns.resolver.resolve(name + ".", kind, lifetime=DNS_SECONDS))
+        return list(resolver.resolve(name + ".", kind, lifetime=DNS_SECONDS))
     except (dns.resolver.NXDOMAIN, dns.resolver.NoAnswer):
         return []
     except dns.exception.DNSException as error:
@@ -183,10 +191,11 @@ def refuse_twice(names):
         raise Refusal(f"two controllers would have the name {twice} in the text")
 
 
-def text_of(head, computers, accounts, own_lines):
+def text_of(given, head, computers, accounts):
     lines = [*head, "", *computers, "", *accounts]
     text = "\n".join(lines).encode("ascii") + b"\n"
-    if own_lines:
+    own_lines = given.own_lines or f"{given.path}.own"
+    if given.own_lines or os.path.exists(own_lines):
         with open(own_lines, "rb") as file:
             text += b"\n" + file.read()
     return text
