@@ -3,7 +3,6 @@ use crate::{ConfFault, conf_of};
 use edge_traits::Addr;
 use key_book::Account;
 use ms_auth::Kind;
-use phase_rule::Limits;
 use std::alloc::Global;
 use std::test::Fail;
 use time_machine::Conf;
@@ -47,58 +46,64 @@ fn read(alloc: Global, text: &str) -> Result<Result<Conf, ConfFault>, Fail> {
     Ok(conf_of(alloc, &settings))
 }
 
-const fn at(last: u32, port: u16) -> Addr
-    requires { last < 256 }
-{
-    Addr {
-        ip: 0x0A00_0000 + last,
-        port,
-    }
-}
+// 10.0.0.1, 10.0.0.2 and 10.0.0.3, which the texts have.
+const FIRST: Addr = Addr {
+    ip: 0x0A00_0001,
+    port: 123,
+};
 
-// Texts, and what a member is set to by them: the kind of its messages, the RID of its account, its limits and its
-// partners in their order.
-const MEMBERS: &[(&str, Kind, u32, Limits, &[Addr])] = &[
+const SECOND: Addr = Addr {
+    ip: 0x0A00_0002,
+    port: 123,
+};
+
+const THIRD: Addr = Addr {
+    ip: 0x0A00_0003,
+    port: 123,
+};
+
+// Texts, and what a member is set to by them: the kind of its messages, the RID of its account, its limits in seconds
+// and its poll exponents, and its partners in their order.
+const MEMBERS: &[(&str, Kind, u32, [u32; 3], [u8; 2], &[Addr])] = &[
     (
         MEMBER,
         Kind::Short,
         1103,
-        Limits {
-            max_pos: 4_294_967_295,
-            max_neg: 4_294_967_295,
-            max_allowed: 300,
-            min_poll: 10,
-            max_poll: 15,
-        },
-        &[at(2, 123), at(1, 123), at(3, 123)],
+        [4_294_967_295, 4_294_967_295, 300],
+        [10, 15],
+        &[SECOND, FIRST, THIRD],
     ),
     (
         EXTENDED,
         Kind::Extended,
         3_000_000_000,
-        Limits {
-            max_pos: 172_800,
-            max_neg: 172_800,
-            max_allowed: 300,
-            min_poll: 6,
-            max_poll: 10,
-        },
-        &[at(3, 123)],
+        [172_800, 172_800, 300],
+        [6, 10],
+        &[THIRD],
     ),
 ];
 
 #[test]
 fn members_are_set(rt: HostRuntime) -> Result<(), Fail> {
-    for (text, kind, rid, limits, partners) in MEMBERS {
+    for (text, kind, rid, seconds, polls, partners) in MEMBERS {
         let conf = read(rt.alloc(), text)?.map_err(|_| "no conf")?;
         let account = Account {
             rid: *rid,
             current: KEY,
             previous: None,
         };
+        let limits = conf.limits;
         assert_eq!(rt;
-            (conf.kind, conf.account, conf.limits, conf.partners.as_slice()),
-            (*kind, account, *limits, *partners),
+            (conf.kind, conf.account, conf.partners.as_slice()),
+            (*kind, account, *partners),
+            "{rid}"
+        );
+        assert_eq!(rt;
+            (
+                [limits.max_pos, limits.max_neg, limits.max_allowed],
+                [limits.min_poll, limits.max_poll]
+            ),
+            (*seconds, *polls),
             "{rid}"
         );
     }

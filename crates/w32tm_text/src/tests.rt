@@ -159,7 +159,13 @@ fn spelled_by(alloc: Global, digits: usize) -> Result<Option<usize>, AllocError>
     let Some(bytes) = shown_by(&words_of(alloc, &[word.as_str()])?) else {
         return Ok(None);
     };
-    Ok(bytes.as_slice().iter().all(|byte| *byte == 0xFF).then_some(bytes.as_slice().len()))
+    Ok(
+        bytes
+            .as_slice()
+            .iter()
+            .all(|byte| *byte == 0xFF)
+            .then_some(bytes.as_slice().len()),
+    )
 }
 
 #[test]
@@ -212,27 +218,37 @@ const STATUSES: &[(Status, u8, &str)] = &[
     (Status::EntropyFault, 10, "w32tm: entropy fault\n"),
     (Status::NoPartner, 11, "w32tm: no partner\n"),
     (
-        Status::BadRequest { reason: Refusal::BadLength },
+        Status::BadRequest {
+            reason: Refusal::BadLength,
+        },
         14,
         "w32tm: bad request, BadLength\n",
     ),
     (
-        Status::BadRequest { reason: Refusal::BadVersion },
+        Status::BadRequest {
+            reason: Refusal::BadVersion,
+        },
         14,
         "w32tm: bad request, BadVersion\n",
     ),
     (
-        Status::BadRequest { reason: Refusal::BadMode },
+        Status::BadRequest {
+            reason: Refusal::BadMode,
+        },
         14,
         "w32tm: bad request, BadMode\n",
     ),
     (
-        Status::BadRequest { reason: Refusal::UnknownAccount },
+        Status::BadRequest {
+            reason: Refusal::UnknownAccount,
+        },
         14,
         "w32tm: bad request, UnknownAccount\n",
     ),
     (
-        Status::BadRequest { reason: Refusal::NoOldKey },
+        Status::BadRequest {
+            reason: Refusal::NoOldKey,
+        },
         14,
         "w32tm: bad request, NoOldKey\n",
     ),
@@ -243,7 +259,11 @@ const STATUSES: &[(Status, u8, &str)] = &[
 fn codes_and_lines(rt: HostRuntime) {
     for (status, code, line) in STATUSES {
         let told = status_line(status);
-        assert_eq!(rt; (status.code(), told.as_slice()), (*code, line.as_bytes()), "{status:?}");
+        assert_eq!(rt;
+            (status.code(), told.as_slice()),
+            (*code, line.as_bytes()),
+            "{status:?}"
+        );
     }
 }
 
