@@ -1,16 +1,17 @@
 //! A disk in a file of the machine.
 ghost use Rattle.std.specs.Prelude.{◌≡◌, ◌↔◌, ◌+◌, ◌≤◌, IsOk, IsTrue, length, false};
+ghost use Rattle.std.specs.Fs.{file_type, metadata_len, IsFile};
 ghost use Rattle.edge_traits.specs.Sink.{PutCounts};
 ghost use Rattle.slot_disk.specs.Calls.{Ticks};
 ghost use Rattle.slot_disk.specs.File.{calls_of, file_faults, is_open};
 
 use crate::{DISK_LEN, Disk, Put};
-use std::fs::{File, Files, OpenOptions};
+use std::fs::{File, Files, Metadata, OpenOptions};
 use std::io;
 use std::os::unix::fs::FileExt;
 use std::path::Path;
 
-/// The first 256 bytes of a file.
+/// A file of 256 bytes, which no other disk has open at the same time.
 ///
 /// It tells nothing but the number of its calls. What the file holds, and that the device keeps what a sync
 /// brought to it, is trusted. A system call that is interrupted is made again, and is no fault.
@@ -22,9 +23,10 @@ pub struct FileDisk {
 }
 
 impl FileDisk {
-    /// Opens a file for reading and writing, and creates it where it is missing. A shorter file is filled
+    /// Opens a file for reading and writing, creates it where it is missing, and locks it. A shorter file is filled
     /// with zero bytes to 256. A new or short file's folder is synced before it is filled, so it must be readable.
-    /// Bytes past 256 are never touched. Where one of these can't be done, the disk is one without a file.
+    /// A longer file, or what is no regular file, is left as it is. There, where another disk has the file, and where
+    /// one of these can't be done, the disk is one without a file.
     pub fn open<R: Files<File = File>>(files: &R, path: &str) -> FileDisk
         ensures calls { calls_of result ≡ 0 }
         ensures faults { file_faults result ≡ 0 }
@@ -72,14 +74,28 @@ fn no_file() -> io::Error {
     io::Error::from(io::ErrorKind::NotFound)
 }
 
-/// The open file, of at least 256 bytes.
+/// Whether what was opened may become a disk: a regular file that isn't longer than one.
+fn may_hold_disk(metadata: &Metadata) -> bool
+    ensures { IsTrue result
+        ↔ (IsFile (file_type metadata.now) × (metadata_len metadata.now ≤ 256)) }
+{
+    metadata.is_file() && metadata.len() <= DISK_LEN as u64
+}
+
+/// The open file, locked, of 256 bytes.
 fn open_filled<R: Files<File = File>>(files: &R, path: &str) -> io::Result<File> {
     let file = OpenOptions::new()
         .read(true)
         .write(true)
         .create(true)
         .open(files, path)?;
-    if file.metadata()?.len() < DISK_LEN as u64 {
+    // The lock goes when the file is closed.
+    file.try_lock()?;
+    let metadata = file.metadata()?;
+    if !may_hold_disk(&metadata) {
+        return Err(io::Error::from(io::ErrorKind::InvalidInput));
+    }
+    if metadata.len() < DISK_LEN as u64 {
         // The name of a new file has to outlast a crash before anything is written.
         File::open(files, folder_of(path))?.sync_all()?;
         file.set_len(DISK_LEN as u64)?;

@@ -7,8 +7,9 @@
 //!
 //! [`MemoryDisk`] tells all of this, and fails the calls that a test lists. [`FuseDisk`] stops after so many
 //! calls, as a machine that is switched off. Both say which of their calls fail, and that a write within the room,
-//! done or failed, tears as freely as the model allows. [`FileDisk`] is the first 256 bytes of a file and tells
-//! neither content nor images; what the device keeps is trusted.
+//! done or failed, tears as freely as the model allows. [`FileDisk`] is a file of 256 bytes and tells neither content
+//! nor images; what the device keeps is trusted. A longer file and what is no regular file are no disk: they are left
+//! as they are, and each call fails, as where another disk has the file.
 //!
 //! It stands on `edge_traits` for the answer of a call and on `base_specs` for counts. The model is
 //! `specs/Told.antt` and `specs/Calls.antt`; `specs/Moments.antt` and `specs/Memory.antt` are the disk in memory,

@@ -99,19 +99,23 @@ fn stops_when_the_fuse_has_blown(rt: HostRuntime) -> Result<(), Fail> {
     Ok(())
 }
 
-/// Writes four pieces by way of a disk, and gives what a new disk then reads.
-fn written(rt: &HostRuntime) -> ([u8; 256], [Put; 6]) {
-    let mut disk = FileDisk::open(rt, PATH);
-    let mut image = [9; 256];
-    let puts = [
+/// Writes four pieces, and syncs.
+fn write_pieces(disk: &mut FileDisk) -> [Put; 5] {
+    [
         disk.write_at(0, &[1, 2, 3]),
         disk.write_at(65, &[4; 7]),
         disk.write_at(128, &[0xA5]),
         disk.write_at(249, &[7; 7]),
         disk.sync(),
-        FileDisk::open(rt, PATH).read(&mut image),
-    ];
-    (image, puts)
+    ]
+}
+
+/// Writes four pieces by way of a disk, and gives what a later disk reads.
+fn written(rt: &HostRuntime) -> ([u8; 256], [Put; 5], Put) {
+    let puts = write_pieces(&mut FileDisk::open(rt, PATH));
+    let mut image = [9; 256];
+    let read = FileDisk::open(rt, PATH).read(&mut image);
+    (image, puts, read)
 }
 
 /// The byte at a place where those four pieces were written over `first` in five bytes and `rest` in all others.
@@ -140,31 +144,72 @@ fn with_pieces(first: u8, rest: u8) -> [u8; 256] {
 fn keeps_its_bytes_in_a_file(rt: HostRuntime) -> Result<(), Fail> {
     let _ = fs::remove_dir_all(&rt, FOLDER);
     fs::create_dir(&rt, FOLDER)?;
-    // A missing file is created, a shorter one filled, and a longer one keeps its rest.
-    for (before, first, rest, after) in [
-        (0, 0, 0, 256),
-        (5, 3, 0, 256),
-        (256, 3, 3, 256),
-        (300, 3, 3, 300),
-    ] {
+    // A missing file is created, and a shorter one filled.
+    for (before, first, rest) in [(0, 0, 0), (5, 3, 0), (256, 3, 3)] {
         if before > 0 {
-            fs::write(&rt, PATH, &[3u8; 300][..before])?;
+            fs::write(&rt, PATH, &[3u8; 256][..before])?;
         }
         let want = with_pieces(first, rest);
-        assert_eq!(rt; written(&rt), (want, [Put::Done; 6]), "{before}");
-        let bytes = fs::read(&rt, PATH)?;
-        assert_eq!(rt; bytes.len(), after, "{before}");
-        assert_eq!(rt; bytes.get(..256), Some(want.as_slice()), "{before}");
-        assert!(rt; bytes.iter().skip(256).all(|byte| *byte == 3), "{before}");
-    }
-    // What can't be opened for writing fails at every call.
-    for mut closed in [FileDisk::open(&rt, FOLDER), FileDisk::without_file()] {
-        for call in [Call::Read, Call::Write(0, 1), Call::Sync] {
-            assert_eq!(rt; make(&mut closed, call), Put::Failed, "{call:?}");
-        }
+        assert_eq!(rt; written(&rt), (want, [Put::Done; 5], Put::Done), "{before}");
+        assert_eq!(rt;
+            fs::read(&rt, PATH)?.as_slice(),
+            want.as_slice(),
+            "{before}"
+        );
     }
     fs::remove_dir_all(&rt, FOLDER)?;
     Ok(())
+}
+
+/// What comes of a read, a write and a sync.
+fn three_calls(mut disk: FileDisk) -> [Put; 3] {
+    [
+        make(&mut disk, Call::Read),
+        make(&mut disk, Call::Write(0, 1)),
+        make(&mut disk, Call::Sync),
+    ]
+}
+
+#[test]
+fn a_longer_file_is_left_as_it_is(rt: HostRuntime) -> Result<(), Fail> {
+    let _ = fs::remove_dir_all(&rt, "slot_disk_long");
+    fs::create_dir(&rt, "slot_disk_long")?;
+    for len in [257, 300] {
+        let content = &[3u8; 300][..len];
+        fs::write(&rt, "slot_disk_long/disk", content)?;
+        let puts = three_calls(FileDisk::open(&rt, "slot_disk_long/disk"));
+        let bytes = fs::read(&rt, "slot_disk_long/disk")?;
+        assert_eq!(rt; (puts, bytes.as_slice()), ([Put::Failed; 3], content));
+    }
+    fs::remove_dir_all(&rt, "slot_disk_long")?;
+    Ok(())
+}
+
+#[test]
+fn a_file_has_one_disk_at_a_time(rt: HostRuntime) -> Result<(), Fail> {
+    let _ = fs::remove_dir_all(&rt, "slot_disk_lock");
+    fs::create_dir(&rt, "slot_disk_lock")?;
+    let first = FileDisk::open(&rt, "slot_disk_lock/disk");
+    let second = three_calls(FileDisk::open(&rt, "slot_disk_lock/disk"));
+    let puts = (second, three_calls(first));
+    assert_eq!(rt; puts, ([Put::Failed; 3], [Put::Done; 3]));
+    let later = three_calls(FileDisk::open(&rt, "slot_disk_lock/disk"));
+    assert_eq!(rt; later, [Put::Done; 3]);
+    fs::remove_dir_all(&rt, "slot_disk_lock")?;
+    Ok(())
+}
+
+#[test]
+fn what_is_no_file_is_no_disk(rt: HostRuntime) {
+    // A folder can't be opened for writing, and the other is no regular file.
+    for path in ["/", "/dev/null"] {
+        assert_eq!(rt;
+            three_calls(FileDisk::open(&rt, path)),
+            [Put::Failed; 3],
+            "{path}"
+        );
+    }
+    assert_eq!(rt; three_calls(FileDisk::without_file()), [Put::Failed; 3]);
 }
 
 #[test]
