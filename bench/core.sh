@@ -1,9 +1,9 @@
 #!/bin/bash
 # What an event costs a member: requests, replies of each kind, stray and forged ones, beside the digest alone.
 # Usage: bench/core.sh [ROUNDS], of 4,000 requests each; 500 where it isn't given.
-# Needs the built program: `rt run` in crates/core_bench.
+# Needs the built program: `rt run` in crates/bench_core.
 . "$(dirname "$0")/../examples/prologue.sh"
-find_proved core_bench
+find_proved bench_core
 rounds=${1:-500}
 requests=4000
 

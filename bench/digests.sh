@@ -6,9 +6,9 @@
 # OpenSSL's EVP interface, which gets 64 and 176 bytes at a time; and to the blocks that it hashes where it gets 16384
 # bytes at a time. All is by processor time, so that a busy machine says the same.
 # Usage: bench/digests.sh
-# Needs OpenSSL's program and the built one: `rt run` in crates/digest_rate.
+# Needs OpenSSL's program and the built one: `rt run` in crates/bench_digests.
 . "$(dirname "$0")/../examples/prologue.sh"
-find_proved digest_rate
+find_proved bench_digests
 short_count=4000000
 extended_count=400000
 command -v openssl >/dev/null || skip "no openssl"

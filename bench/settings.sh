@@ -3,9 +3,9 @@
 # and how that grows: the same with half as many lines. Each line is compared with all earlier ones of its kind.
 # All but the memory is by processor time, so that a busy machine says nearly the same; the load is printed beside it.
 # Usage: bench/settings.sh
-# Needs GNU time and the built program: `rt run` in crates/settings_bench.
+# Needs GNU time and the built program: `rt run` in crates/bench_settings.
 . "$(dirname "$0")/../examples/prologue.sh"
-find_proved settings_bench
+find_proved bench_settings
 [ -x /usr/bin/time ] || skip "no /usr/bin/time"
 
 # A text with so many accounts and computers, all with names of their own.

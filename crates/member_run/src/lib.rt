@@ -13,7 +13,7 @@
 //! The files, in the order of a run: `life.rt` (the whole), `running.rt` (its start and a turn), `reserving.rt` (counts),
 //! `devices.rt` (readings, words, records and lines), `taking.rt` (an event), `closing.rt` (the last lines), and
 //! `rounds.rt` (`resync`). The other definitions in `specs/` belong to the private part. Its tests are runs, in
-//! `life_rows`.
+//! `test_lives`.
 #![tactic(auto)]
 
 mod closing;

@@ -1,8 +1,8 @@
 //! Runs that are compared with the word of their calls.
-use command_scripts::{Device, Ordered, Script, call_at, run_in_order};
 use std::alloc::{AllocError, Global};
 use std::process::Abort;
 use std::test::Fail;
+use test_scripts::{Device, Ordered, Script, call_at, run_in_order};
 use w32tm_cmd::Status;
 
 /// A run: its words, its input and what its devices do.

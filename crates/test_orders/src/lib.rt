@@ -5,7 +5,7 @@
 //! a failing call is the last one, but for a send or a receive. `member.rt` has a run of a member with a step, a slew, a
 //! refused reply, a change of partner and a second block of counts; `others.rt` the other commands.
 //!
-//! It stands on `command_scripts` for the devices and the top call.
+//! It stands on `test_scripts` for the devices and the top call.
 #![tactic(auto)]
 
 #[cfg(test)]

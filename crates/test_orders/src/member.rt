@@ -1,9 +1,9 @@
 //! The order of calls of `/member`.
 use crate::expected::{Part, Run, expect_faults, expect_order, word_of};
-use command_scripts::{Came, Device, INTERVAL, NEW_YEAR, SETTINGS, STEADY, Script, THIRD};
 use edge_io::Addr;
 use std::alloc::{AllocError, Global};
 use std::test::Fail;
+use test_scripts::{Came, Device, INTERVAL, NEW_YEAR, SETTINGS, STEADY, Script, THIRD};
 
 /// How many turns the run takes: its 65th request is that of turn 67.
 const TURNS: i64 = 68;

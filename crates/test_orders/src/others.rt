@@ -1,8 +1,8 @@
 //! The order of calls of the other commands.
 use crate::expected::{Part, Run, expect_faults, expect_order, word_of};
-use command_scripts::{Came, LATER, NEW_YEAR, REQUEST, SETTINGS, STEADY, Script};
 use edge_io::Addr;
 use std::test::Fail;
+use test_scripts::{Came, LATER, NEW_YEAR, REQUEST, SETTINGS, STEADY, Script};
 
 const CLIENT: Addr = Addr {
     ip: 0x0A00_0032,

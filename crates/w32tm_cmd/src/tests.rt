@@ -1,5 +1,5 @@
-//! Each command once, over devices in memory. Whole runs, and runs whose devices' calls fail, are in `sign_rows`,
-//! `controller_rows`, `monitor_rows`, `replay_rows`, `member_rows` and `settings_rows`.
+//! Each command once, over devices in memory. Whole runs, and runs whose devices' calls fail, are in `test_sign`,
+//! `test_dc`, `test_monitor`, `test_replay`, `test_member` and `test_settings`.
 use crate::{Outside, Status, w32tm};
 use edge_io::{ScriptClock, ScriptEntropy, ScriptLink, ScriptSink, ScriptSource};
 use slot_disk::MemoryDisk;

@@ -1,8 +1,0 @@
-//! Runs of `/show` over devices in memory: a message's lines, lengths that are none, and writes that fail. Tests alone:
-//! nothing here is shipped.
-//!
-//! It stands on `w32tm_cmd`, and on `command_scripts`, which makes the devices.
-#![tactic(auto)]
-
-#[cfg(test)]
-mod showing;
