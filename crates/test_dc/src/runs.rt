@@ -1,9 +1,9 @@
 //! Runs of `/dc`.
-use test_scripts::{Came, Device, LATER, NEW_YEAR, REQUEST, Ran, STEADY, Script, run};
 use edge_io::{Addr, Drawn, Link, Put, Reading, Tried};
 use std::alloc::Global;
 use std::process::Abort;
 use std::test::Fail;
+use test_scripts::{Came, Device, LATER, NEW_YEAR, REQUEST, Ran, STEADY, Script, run};
 use w32tm_cmd::Status;
 
 const WORDS: &[&str] = &["/dc:3", "/config:c"];

@@ -1,12 +1,12 @@
 //! Runs of `/replay`.
-use test_scripts::{
-    Came, Device, NEW_YEAR, REALISTIC, REQUEST, Ran, SETTINGS, STEADY, Script, realistic_capture,
-    run,
-};
 use edge_io::{Addr, Drawn, Link, Reading};
 use std::alloc::Global;
 use std::process::Abort;
 use std::test::Fail;
+use test_scripts::{
+    Came, Device, NEW_YEAR, REALISTIC, REQUEST, Ran, SETTINGS, STEADY, Script, realistic_capture,
+    run,
+};
 use w32tm_cmd::Status;
 
 const WORDS: &[&str] = &["/replay", "/config:c"];

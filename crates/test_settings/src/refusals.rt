@@ -1,9 +1,9 @@
 //! Settings that are refused, by each command that reads some.
-use test_scripts::{Came, Device, NEW_YEAR, REQUEST, Ran, STEADY, Script, run};
 use edge_io::{Addr, Drawn, Link, Reading};
 use std::alloc::Global;
 use std::process::Abort;
 use std::test::Fail;
+use test_scripts::{Came, Device, NEW_YEAR, REQUEST, Ran, STEADY, Script, run};
 use w32tm_cmd::Status;
 
 const DC: &[&str] = &["/dc:1", "/config:c"];

@@ -1,10 +1,10 @@
 //! Runs of `/show`.
-use test_scripts::{Device, NEW_YEAR, REQUEST, Ran, STEADY, Script, run};
 use dc_sign::Refusal;
 use edge_io::Reading;
 use std::alloc::Global;
 use std::process::Abort;
 use std::test::Fail;
+use test_scripts::{Device, NEW_YEAR, REQUEST, Ran, STEADY, Script, run};
 use w32tm_cmd::Status;
 
 // `/show` of the sample request, and its lines.

@@ -178,7 +178,11 @@ fn draws_by(command: &Option<Command>) -> bool
 }
 
 /// The path in the word of this place, behind the name of its option.
-pub(crate) fn path_in<'a>(words: &'a Vec<String>, place: Option<usize>, name: &str) -> Option<&'a str>
+pub(crate) fn path_in<'a>(
+    words: &'a Vec<String>,
+    place: Option<usize>,
+    name: &str,
+) -> Option<&'a str>
     ensures read { IfSome result (λ path. IsSomeAnd place
         (λ at. HasPathAt name.now words.now.items at path.now)) }
     ensures found { (at : ℕ) (path : List ℕ) → place ≡ Some at

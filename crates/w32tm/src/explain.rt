@@ -42,7 +42,12 @@ pub(crate) fn explanation<R: Files + Net>(
         add_file(&mut text, rt, keeper, &kept)?;
         if *status == Status::ClockFault {
             let samples = path_in(words, command.clock, "/clock:");
-            add_file(&mut text, rt, samples, OpenOptions::new().read(true).write(true))?;
+            add_file(
+                &mut text,
+                rt,
+                samples,
+                OpenOptions::new().read(true).write(true),
+            )?;
         }
         if *status == Status::WriteFault {
             let record = path_in(words, capture_recorded(command), "/capture:");
@@ -89,17 +94,32 @@ mod tests {
              w32tm: /dev/null/e: Not a directory (os error 20)\n",
         ),
         (
-            &["/member:1", "/config:/dev/null", "/keeper:/", "/capture:/no/e"],
+            &[
+                "/member:1",
+                "/config:/dev/null",
+                "/keeper:/",
+                "/capture:/no/e",
+            ],
             Status::DiskFault,
             "w32tm: /: Is a directory (os error 21)\n",
         ),
         (
-            &["/member:1", "/config:/dev/null", "/keeper:/dev/null", "/clock:/no/s"],
+            &[
+                "/member:1",
+                "/config:/dev/null",
+                "/keeper:/dev/null",
+                "/clock:/no/s",
+            ],
             Status::ClockFault,
             "w32tm: /no/s: No such file or directory (os error 2)\n",
         ),
         (
-            &["/member:1", "/config:/dev/null", "/keeper:/dev/null", "/capture:/no/e"],
+            &[
+                "/member:1",
+                "/config:/dev/null",
+                "/keeper:/dev/null",
+                "/capture:/no/e",
+            ],
             Status::WriteFault,
             "w32tm: /no/e: No such file or directory (os error 2)\n",
         ),
@@ -129,7 +149,9 @@ mod tests {
         words.push(format!(in rt.alloc(); "/port:{port}")?)?;
         let command = read_words(&words).ok();
         let text = explanation(&rt, rt.alloc(), &words, &command, &Status::Done)?;
-        let line = format!(in rt.alloc(); "w32tm: port {port}: Address already in use (os error 98)\n")?;
+        let line = format!(in rt.alloc();
+            "w32tm: port {port}: Address already in use (os error 98)\n"
+        )?;
         assert_eq!(rt; text.as_str(), line.as_str());
         Ok(())
     }

@@ -8,13 +8,12 @@ ghost use Rattle.w32tm.specs.Output.{is_file, is_null};
 
 use crate::clock::MachineClock;
 use crate::devices::{
-    capture_of, capture_read, capture_recorded, clock_of, config_of, disk_of, entropy_of, link_of, record_of,
+    capture_of, capture_read, capture_recorded, clock_of, config_of, disk_of, entropy_of, link_of,
+    record_of,
 };
 use crate::input::Input;
 use crate::output::Output;
-use edge_io::{
-    FileSink, RandomFile, ReaderSource, RealClock, SampleClock, UdpLink, WriterSink,
-};
+use edge_io::{FileSink, RandomFile, ReaderSource, RealClock, SampleClock, UdpLink, WriterSink};
 use slot_disk::FileDisk;
 use std::alloc::{AllocError, Global};
 use std::fs::File;

@@ -6,9 +6,8 @@ ghost use Rattle.w32tm_text.specs.Status.{code_of, line_of};
 ghost use Rattle.w32tm_text.specs.declared.status.Status.TheVariants as status;
 
 use edge_io::Sink;
-use std::fs;
-use std::io;
 use std::rt::Files;
+use std::{fs, io};
 use w32tm_cmd::{Status, status_line};
 
 /// Three files that are open as long as this is held. They take those descriptors of 0 to 2 that are closed, so that
@@ -48,7 +47,11 @@ mod tests {
     const ENDS: &[(Status, u8, &str)] = &[
         (Status::Done, 0, ""),
         (Status::BadWords, 1, "w32tm: bad words\n"),
-        (Status::BadConfig { line: 7 }, 2, "w32tm: bad settings at line 7\n"),
+        (
+            Status::BadConfig { line: 7 },
+            2,
+            "w32tm: bad settings at line 7\n",
+        ),
         (Status::NoMemory, 15, "w32tm: no memory\n"),
     ];
 
@@ -60,7 +63,11 @@ mod tests {
                 return Err(Fail::from("it takes memory for 99 bytes"));
             };
             let ended = end_with(&mut errors, status);
-            assert_eq!(rt; (ended, errors.bytes()), (*code, line.as_bytes()), "{status:?}");
+            assert_eq!(rt;
+                (ended, errors.bytes()),
+                (*code, line.as_bytes()),
+                "{status:?}"
+            );
         }
         Ok(())
     }
