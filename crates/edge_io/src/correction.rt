@@ -181,4 +181,42 @@ mod tests {
             assert_eq!(rt; ahead_at(&mut clock, machine), ahead, "at {machine}");
         }
     }
+
+    /// The greatest error after the first correction and the last one, of a clock that is asked every 64 seconds and
+    /// slewed by its error. It is behind by so many ticks, and the machine's clock loses one tick in so many.
+    fn polled(behind: i128, slow: u128) -> (i128, i128)
+        requires { 0 < slow }
+    {
+        let mut clock = Correction::new();
+        let mut greatest = 0;
+        let mut last = 0;
+        for poll in 0..11_000u32 {
+            let now = u128::from(poll) * 640_000_000;
+            let lost = now / slow;
+            let ahead = ahead_at(&mut clock, now - lost);
+            last = behind.saturating_add(lost as i128).saturating_sub(ahead);
+            if poll > 0 {
+                greatest = last.max(greatest);
+            }
+            clock.slew(i64::try_from(last).unwrap_or(0));
+        }
+        (greatest, last)
+    }
+
+    #[test]
+    fn errors_shrink_to_the_drift_of_one_poll(rt: HostRuntime) {
+        // In 64 seconds an even clock works off 320,000 ticks. One that is slow by 50 millionths works off 319,984 and
+        // loses 32,000.
+        let rows: [(i128, u128, (i128, i128)); 6] = [
+            (100_000, u128::MAX, (0, 0)),
+            (10_000_000, u128::MAX, (9_680_000, 0)),
+            (2_990_000_000, u128::MAX, (2_989_680_000, 0)),
+            (100_000, 20_000, (32_000, 32_000)),
+            (10_000_000, 20_000, (9_712_016, 32_000)),
+            (2_990_000_000, 20_000, (2_989_712_016, 32_000)),
+        ];
+        for (behind, slow, errors) in rows {
+            assert_eq!(rt; polled(behind, slow), errors, "{behind} and {slow}");
+        }
+    }
 }
