@@ -2,10 +2,9 @@
 ghost use Rattle.std.specs.Prelude.{◌≡◌, [], ◌∷◌};
 ghost use Rattle.edge_io.specs.Clock.{Correct, ReadingCounts, Reads};
 ghost use Rattle.edge_io.specs.Told.{Grew};
-ghost use Rattle.edge_io.specs.declared.clock.Move.TheVariants as made;
 ghost use Rattle.w32tm.specs.Clock.{is_sampled, of_clock};
 
-use edge_io::{Clock, Reading};
+use edge_io::{Clock, Move, Reading};
 
 /// A clock of one of two kinds. It tells what its clock tells, and has that clock's count of failed readings.
 #[derive(Drop)]
@@ -38,7 +37,7 @@ impl<M: Clock, S: Clock> Clock for MachineClock<M, S> {
 
     fn step(&mut self, amount: i64)
         ensures moves { let told = of_clock M.told S.told in
-            Grew (told self.old) (told self.new) (Correct (made.Step amount) ∷ []) }
+            Grew (told self.old) (told self.new) (Correct (Move.Step amount) ∷ []) }
         ensures cause { let faults = of_clock M.faults S.faults in
             faults self.new ≡ faults self.old }
         ensures kind { is_sampled self.new ≡ is_sampled self.old }
@@ -51,7 +50,7 @@ impl<M: Clock, S: Clock> Clock for MachineClock<M, S> {
 
     fn slew(&mut self, amount: i64)
         ensures moves { let told = of_clock M.told S.told in
-            Grew (told self.old) (told self.new) (Correct (made.Slew amount) ∷ []) }
+            Grew (told self.old) (told self.new) (Correct (Move.Slew amount) ∷ []) }
         ensures cause { let faults = of_clock M.faults S.faults in
             faults self.new ≡ faults self.old }
         ensures kind { is_sampled self.new ≡ is_sampled self.old }
@@ -66,7 +65,7 @@ impl<M: Clock, S: Clock> Clock for MachineClock<M, S> {
 #[cfg(test)]
 mod tests {
     use super::*;
-    use edge_io::{Move, ScriptClock};
+    use edge_io::ScriptClock;
     use std::test::Fail;
 
     // Each kind hands its calls on: two corrections, and a reading that its clock doesn't have.

@@ -1,14 +1,12 @@
 //! The standard streams that are closed, and the line with which a run ends.
 ghost use Rattle.std.specs.Prelude.{◌≡◌, ◌≢◌};
 ghost use Rattle.edge_io.specs.Sink.{Writes};
-ghost use Rattle.edge_io.specs.declared.sink.Put.{Put};
 ghost use Rattle.w32tm_text.specs.Status.{code_of, line_of};
-ghost use Rattle.w32tm_text.specs.declared.status.Status.TheVariants as status;
 
 use edge_io::Sink;
 use std::rt::Files;
 use std::{fs, io};
-use w32tm_cmd::{Status, status_line};
+use w32tm_text::{Status, status_line};
 
 /// Three files that are open as long as this is held. They take those descriptors of 0 to 2 that are closed, so that
 /// no later file gets one of them: a report that is written to a closed standard output would go into that file.
@@ -25,8 +23,8 @@ pub(crate) fn closed_streams<R: Files>(files: &R) -> [io::Result<R::File>; 3] {
 /// Writes the line of a status, in one write, and gives its exit code. What was done has no line.
 pub(crate) fn end_with<S: Sink>(errors: &mut S, status: &Status) -> u8
     ensures code { result ≡ code_of status.now }
-    ensures done { status.now ≡ status.Done → errors.new ≡ errors.old }
-    ensures line { status.now ≢ status.Done → (put : Put)
+    ensures done { status.now ≡ Status.Done → errors.new ≡ errors.old }
+    ensures line { status.now ≢ Status.Done → (put : _)
         × Writes put (line_of status.now) (S.written errors.old) (S.written errors.new) }
 {
     let line = status_line(status);
@@ -63,11 +61,8 @@ mod tests {
                 return Err(Fail::from("it takes memory for 99 bytes"));
             };
             let ended = end_with(&mut errors, status);
-            assert_eq!(rt;
-                (ended, errors.bytes()),
-                (*code, line.as_bytes()),
-                "{status:?}"
-            );
+            assert_eq!(rt; ended, *code, "{status:?}");
+            assert_eq!(rt; errors.bytes(), line.as_bytes(), "{status:?}");
         }
         Ok(())
     }

@@ -93,11 +93,8 @@ fn members_are_set(rt: HostRuntime) -> Result<(), Fail> {
             previous: None,
         };
         let limits = conf.limits;
-        assert_eq!(rt;
-            (conf.kind, conf.account, conf.partners.as_slice()),
-            (*kind, account, *partners),
-            "{rid}"
-        );
+        assert_eq!(rt; (conf.kind, conf.account), (*kind, account), "{rid}");
+        assert_eq!(rt; conf.partners.as_slice(), *partners, "{rid}");
         assert_eq!(rt;
             (
                 [limits.max_pos, limits.max_neg, limits.max_allowed],

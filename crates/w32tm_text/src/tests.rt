@@ -259,11 +259,8 @@ const STATUSES: &[(Status, u8, &str)] = &[
 fn codes_and_lines(rt: HostRuntime) {
     for (status, code, line) in STATUSES {
         let told = status_line(status);
-        assert_eq!(rt;
-            (status.code(), told.as_slice()),
-            (*code, line.as_bytes()),
-            "{status:?}"
-        );
+        assert_eq!(rt; status.code(), *code, "{status:?}");
+        assert_eq!(rt; told.as_slice(), line.as_bytes(), "{status:?}");
     }
 }
 

@@ -1,7 +1,7 @@
 //! Words: the commands with their options, and what is none.
 use super::words_of;
 use crate::{Action, read_words};
-use std::alloc::AllocError;
+use std::alloc::{AllocError, Global};
 
 /// The commands, without what stands in the words of `/sign` and `/show`.
 #[derive(Clone, Copy, Debug, PartialEq, Eq)]
@@ -308,8 +308,8 @@ const GOOD: &[(&[&str], Work, [usize; 4], u16)] = &[
     ),
 ];
 
-const BAD: &[&[&str]] = &[
-    // The command.
+// Words that begin with no command.
+const BAD_COMMANDS: &[&[&str]] = &[
     &["/dc", "/config:a"],
     &["/dc:", "/config:a"],
     &["/dc:0", "/config:a"],
@@ -374,6 +374,10 @@ const BAD: &[&[&str]] = &[
     &["/vote", "/config:a"],
     &["/signd:1"],
     &["/signd:1", "/config:a"],
+];
+
+// Commands whose options are missing or not spelled as they should be.
+const BAD_OPTIONS: &[&[&str]] = &[
     // What is required is missing.
     &["/dc:1"],
     &["/dc:1", "/port:123"],
@@ -421,6 +425,10 @@ const BAD: &[&[&str]] = &[
     &["/member:1", "/config:a", "/keeper:b", "/port:0"],
     &["/member:1", "/config:a", "/keeper:b", "/port:65536"],
     &["/member:1", "/config:a", "/keeper:b", "/port:"],
+];
+
+// Options that come twice, and words that the command doesn't have.
+const FOREIGN_OPTIONS: &[&[&str]] = &[
     // An option twice.
     &["/member:1", "/config:a", "/keeper:b", "/config:a"],
     &["/member:1", "/keeper:b", "/config:a", "/keeper:c"],
@@ -464,7 +472,10 @@ const BAD: &[&[&str]] = &[
     &["/show:00", "/capture:b"],
     &["/sign:1103:00000000000000000000000000000000", "/clock:c"],
     &["/show:00", "/clock:c"],
-    // Words of `/sign` and `/show`.
+];
+
+// Words of `/sign` and `/show` that are none.
+const BAD_WORDS: &[&[&str]] = &[
     &[],
     &[""],
     &["sign:1103:00000000000000000000000000000000"],
@@ -507,11 +518,36 @@ fn words_of_commands(rt: HostRuntime) -> Result<(), AllocError> {
     Ok(())
 }
 
+/// The place of the first words of a table that spell a command.
+fn first_good(alloc: Global, table: &[&[&str]]) -> Result<Option<usize>, AllocError> {
+    for (place, texts) in table.iter().enumerate() {
+        if read_words(&words_of(alloc, texts)?).is_ok() {
+            return Ok(Some(place));
+        }
+    }
+    Ok(None)
+}
+
+#[test]
+fn bad_commands(rt: HostRuntime) -> Result<(), AllocError> {
+    assert_eq!(rt; first_good(rt.alloc(), BAD_COMMANDS)?, None);
+    Ok(())
+}
+
+#[test]
+fn bad_options(rt: HostRuntime) -> Result<(), AllocError> {
+    assert_eq!(rt; first_good(rt.alloc(), BAD_OPTIONS)?, None);
+    Ok(())
+}
+
+#[test]
+fn foreign_options(rt: HostRuntime) -> Result<(), AllocError> {
+    assert_eq!(rt; first_good(rt.alloc(), FOREIGN_OPTIONS)?, None);
+    Ok(())
+}
+
 #[test]
 fn bad_words(rt: HostRuntime) -> Result<(), AllocError> {
-    for texts in BAD {
-        let said = said_by(&words_of(rt.alloc(), texts)?);
-        assert_eq!(rt; said, None, "{texts:?}");
-    }
+    assert_eq!(rt; first_good(rt.alloc(), BAD_WORDS)?, None);
     Ok(())
 }
