@@ -107,22 +107,35 @@ fn earlier_life_is_no_request(rt: HostRuntime) -> Result<(), Fail> {
     )
 }
 
-/// Where the records of the capture end, and how many bytes the lines have up to there.
-const ENDS: &[(usize, usize)] = &[(0, 0), (17, 12), (30, 37), (47, 50), (132, 75)];
+/// Where the records of the capture end, how many bytes their lines have, and the total line of the records up to there.
+const ENDS: &[(usize, usize, &[u8])] = &[
+    (0, 0, b"total sent=0 moved=0 refused=0\n"),
+    (17, 12, b"total sent=0 moved=0 refused=0\n"),
+    (30, 37, b"total sent=1 moved=0 refused=0\n"),
+    (47, 50, b"total sent=1 moved=0 refused=0\n"),
+    (132, 75, b"total sent=1 moved=0 refused=1\n"),
+];
 
 // The capture is bad where it ends inside a record, and the report has the records before that one.
 fn expect_cut(rt: &impl Abort, cut: usize, ran: &Ran) {
-    let mut last = (0, 0);
-    for (at, len) in ENDS {
-        if *at <= cut {
-            last = (*at, *len);
+    let mut last: (usize, usize, &[u8]) = (0, 0, b"");
+    for end in ENDS {
+        if end.0 <= cut {
+            last = *end;
         }
     }
-    let (at, len) = last;
+    let (at, len, total) = last;
     let lines = LINES.get(..len).unwrap_or(b"");
     if at == cut {
-        assert_eq!(rt; ran.status, Status::Done, "{cut}");
-        assert!(rt; ran.written().starts_with(lines), "{cut}");
+        assert_eq!(rt;
+            (
+                ran.status,
+                ran.written().get(..len),
+                ran.written().get(len..)
+            ),
+            (Status::Done, Some(lines), Some(total)),
+            "{cut}"
+        );
         expect_untouched(rt, ran);
     } else {
         expect_end(rt, ran, Status::BadCapture { at: at as u64 }, lines);
