@@ -60,7 +60,7 @@ def run(parser, work):
     except Refusal as refusal:
         end(str(refusal))
     except OSError as error:
-        end(f"{error.strerror}: {printable(error.filename or 'no file')}")
+        end(f"{error.strerror}: {printable(error.filename or 'standard output')}")
     except KeyboardInterrupt:
         end("interrupted")
 
@@ -70,6 +70,8 @@ def folder_of(path):
 
 
 def end(sentence):
+    # What couldn't be printed isn't tried once more.
+    os.dup2(os.open(os.devnull, os.O_WRONLY), 1)
     print(f"{os.path.basename(sys.argv[0])}: {sentence}", file=sys.stderr)
     sys.exit(1)
 
@@ -87,9 +89,14 @@ def within(seconds, sentence, question):
     if child == 0:
         answer(seconds, question, writer)
     os.close(writer)
-    with os.fdopen(reader, "rb") as pipe:
-        answered = pipe.read()
-    status = os.waitpid(child, 0)[1]
+    try:
+        with os.fdopen(reader, "rb") as pipe:
+            answered = pipe.read()
+    except BaseException:
+        os.kill(child, signal.SIGKILL)
+        raise
+    finally:
+        status = os.waitpid(child, 0)[1]
     if os.WIFSIGNALED(status) and os.WTERMSIG(status) == signal.SIGALRM:
         raise Refusal(sentence)
     if not answered:
@@ -214,6 +221,13 @@ def check(program, path, codes):
 
 def put(path, text, program, codes):
     """Puts the text in place of another one, whole or not at all, and says whether it changed."""
+    try:
+        return replace(path, text, program, codes)
+    except OSError as error:
+        raise Refusal(f"{printable(path)} can't be written: {error.strerror}") from None
+
+
+def replace(path, text, program, codes):
     old = None
     with suppress(FileNotFoundError), open(path, "rb") as file:
         old = file.read()
@@ -241,10 +255,15 @@ def put(path, text, program, codes):
 def finish(given, text, codes, report):
     """Writes the text, says what is in it, and restarts the service where it changed."""
     changed = put(given.path, text, given.program, codes)
+    restarted = not (changed and given.restart) or try_restart(given.restart)
     for line in report:
         print(line)
-    print(f"{printable(given.path)}: {'written' if changed else 'unchanged'}")
-    if changed and given.restart:
-        done = subprocess.run(["systemctl", "try-restart", given.restart], stdin=subprocess.DEVNULL)
-        if done.returncode != 0:
-            raise Refusal(f"the text is written, but {printable(given.restart)} wasn't restarted")
+    print(f"{printable(given.path)}: {'written' if changed else 'unchanged'}", flush=True)
+    if not restarted:
+        raise Refusal(f"the text is written, but {printable(given.restart)} wasn't restarted")
+
+
+def try_restart(unit):
+    with suppress(OSError):
+        return subprocess.run(["systemctl", "try-restart", unit], stdin=subprocess.DEVNULL).returncode == 0
+    return False
