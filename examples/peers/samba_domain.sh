@@ -159,7 +159,7 @@ make_accounts() {
     add_account OTHER user 'OTHER$' 2048 "$(head -c 15 /dev/urandom | base64)"
 }
 
-write_controller() { run "$samba/controller_settings" --program "$program" --configfile "$dc1" "$@" "$folder/dc.conf"; }
+write_controller() { run "$samba/controller_settings" --program "$program" --configfile "$dc1" "$folder/dc.conf"; }
 write_member() { run "$samba/member_settings" --program "$program" --configfile "$ws1" "$@"; }
 key_of() { sed -n "s/^account $1 \([0-9a-f]*\).*/\1/p" "${2:-$folder/dc.conf}"; }
 rid_of() {
