@@ -5,8 +5,8 @@
 # signing service has to sign the same replies to the same bytes. At last what is wrong has to be said, and leave the old
 # text as it was.
 #
-# All of it is in namespaces of its own (network, mounts, names, processes), which end with it. Nothing of the machine is
-# changed, and nothing is left behind.
+# All of it is in namespaces of its own (network, mounts, names, processes), which end with it. The machine's files are
+# read-only there, and nothing is left behind.
 # Usage: examples/peers/samba_domain.sh, as root. Skipped without Debian's samba, samba-ad-provision, winbind, smbclient,
 # krb5-user, bind9-dnsutils, ldb-tools, python3-samba and python3-dnspython. chronyd is told the member's samples where
 # it, socat and the program's /clock: are.
@@ -76,9 +76,11 @@ cat >"$folder/krb5.conf" <<END_OF_TEXT
     default_realm = EXAMPLE.TEST
     dns_lookup_realm = false
     dns_lookup_kdc = true
-    default_keytab_name = FILE:$folder/ws1/krb5.keytab
 END_OF_TEXT
-export KRB5_CONFIG=$folder/krb5.conf
+export KRB5_CONFIG=$folder/krb5.conf KRB5_KTNAME=$folder/machine.keytab
+# From here on no file of the machine can be written, whatever Samba's tools do.
+mount --bind "$folder" "$folder"
+mount -o remount,bind,ro /
 
 # The domain and its controller.
 make_domain() {
@@ -116,7 +118,6 @@ join_member() {
     realm = EXAMPLE.TEST
     workgroup = EXAMPLE
     security = ads
-    kerberos method = secrets and keytab
     interfaces = 192.0.2.2/24
     bind interfaces only = yes
     private dir = $folder/ws1/private
