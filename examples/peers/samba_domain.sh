@@ -79,7 +79,7 @@ cat >"$folder/krb5.conf" <<END_OF_TEXT
 END_OF_TEXT
 export KRB5_CONFIG=$folder/krb5.conf KRB5_KTNAME=$folder/machine.keytab
 # From here on no file of the machine can be written, whatever Samba's tools do.
-mount --bind "$folder" "$folder"
+mount --bind "${folder%/*}" "${folder%/*}"
 mount -o remount,bind,ro /
 
 # The domain and its controller.
@@ -245,8 +245,10 @@ tell_chronyd() {
     chronyd=$!
     wait_until test -S "$folder/sock" || fail "chronyd: $(tail -n 1 "$folder/chronyd")"
     mkfifo "$folder/fifo"
-    socat -u -b40 "PIPE:$folder/fifo" "UNIX-SENDTO:$folder/sock" &
+    socat -u -b40 "PIPE:$folder/fifo,rdwr" "UNIX-SENDTO:$folder/sock" &
     socat=$!
+    is_reading() { find "/proc/$socat/fd" -lname "$folder/fifo" | grep -q .; }
+    wait_until is_reading || fail "socat doesn't read"
     run "$program" /member:20 "/config:$folder/ws1.conf" "/keeper:$folder/ws1.keeper" "/clock:$folder/fifo"
     run chronyc -h 127.0.0.1 sources
     grep -q '^#\* AD ' "$folder/said" || fail "chronyd hasn't taken the member's samples"
