@@ -1,9 +1,10 @@
 -- A replay writes the lines of the run.
-use Rattle.std.proofs.Common.{◌≡◌, ◌+◌, ◌-◌, ◌*◌, ◌^◌, ◌<◌, ◌≤◌, ◌⊎◌, ℕ, suc, ℤ, List, [], ◌∷◌, ◌++◌, length, reverse, min, Bool, true, false, if◌then◌else◌, Option, Some, refl, sym, ◌∙◌, ap, subst, arith, length-append, append_assoc, unsigned_abs}
+use Rattle.std.proofs.Common.{◌≡◌, ◌+◌, ◌-◌, ◌*◌, ◌^◌, ◌<◌, ◌≤◌, ◌⊎◌, ℕ, suc, List, [], ◌∷◌, ◌++◌, length, reverse, min, Bool, true, false, if◌then◌else◌, Option, Some, refl, sym, ◌∙◌, ap, subst, arith, length-append, append_assoc, unsigned_abs}
 use Rattle.std.specs.List.{AllByRecursion, flat_map}
 use Rattle.std.proofs.lemmas.List.{append-nil, append_cancel_left, length-reverse}
 use Rattle.base_specs.specs.Told.{Added}
-use Rattle.edge_traits.specs.declared.link.Receipt.{Receipt}
+use Rattle.edge_traits.specs.Clock.{ClockCall}
+use Rattle.edge_traits.specs.Link.{LinkCall}
 use Rattle.capture_fmt.specs.declared.event.Event.{Event}
 use Rattle.capture_fmt.specs.declared.event.Event.TheVariants.{Life, Tick, Resync, Arrive}
 use Rattle.capture_fmt.specs.Capture.{SpellsEvents, place_limit}
@@ -18,7 +19,7 @@ use Rattle.run_deeds.specs.Closing.{closing_by, closing_lines, link_line}
 use Rattle.run_deeds.specs.Deeds.{Ending, Whole, NoRecord, NoLine, IsWhole, cut_record, missing_in, reasons_by}
 use Rattle.run_deeds.specs.Devices.{LifeEndsBy}
 use Rattle.run_deeds.specs.Lives.{Reports, Totals}
-use Rattle.run_deeds.specs.Weaving.{Need, Start, Stood, Turns, Weaves, none, life, reads, draws, gets, quiet, lost, arrives}
+use Rattle.run_deeds.specs.Weaving.{Need, Start, Stood, Turns, WordFor, ReceiptNow, ReadingFor, Act, Weaves, none, acts, life, reads, draws, gets, quiet, lost, arrives, call_reads, call_draws, round_gets, round_quiet, round_lost, round_arrives}
 use Rattle.run_deeds.specs.declared.life_end.LifeEnd.{LifeEnd}
 use Rattle.run_deeds.specs.declared.life_end.Why.{Why}
 use Rattle.run_deeds.specs.declared.life_end.Why.TheVariants as why
@@ -40,20 +41,43 @@ use Rattle.w32tm_text.specs.declared.status.Status.TheVariants.{Done, NoMemory}
 
 -- ---- How many events there are at most
 
-turns_bound : {conf : Conf} {left : ℕ} {history : History} {rs : List ℤ} {ws : List ℕ} {qs : List Receipt} {es : List Event} {need : Need}
-    → Weaves conf (Turns left) history rs ws qs es need → length es ≤ 2 * left
-turns_bound none = omega arith
-turns_bound (reads none) = omega arith
-turns_bound (reads (draws none)) = omega arith
-turns_bound (reads (draws (gets none))) = omega arith
-turns_bound (reads (draws (gets (arrives s)))) = let rest = turns_bound s in omega (arith, rest)
-turns_bound (reads (draws (quiet s))) = let rest = turns_bound s in omega (arith, rest)
-turns_bound (reads (draws (lost s))) = let rest = turns_bound s in omega (arith, rest)
+-- a Life, or a turn, or what follows in one
+abbrev IsOfTurns : Need → Type 0
+IsOfTurns (Start stood next) = IsOfTurns next
+IsOfTurns (Turns left) = Unit {0}
+IsOfTurns (WordFor left now) = Unit {0}
+IsOfTurns (ReceiptNow left) = Unit {0}
+IsOfTurns (ReadingFor left from bytes) = Unit {0}
+IsOfTurns (Act outcome behind) = IsOfTurns behind
+IsOfTurns _ = ⊥
 
-run_bound : {conf : Conf} {stood : Stood} {turns : ℕ} {history : History} {rs : List ℤ} {ws : List ℕ} {qs : List Receipt} {es : List Event} {need : Need}
-    → Weaves conf (Start stood (Turns turns)) history rs ws qs es need → length es ≤ 1 + 2 * turns
-run_bound none = omega arith
-run_bound (life s) = let rest = turns_bound s in omega (arith, rest)
+-- how many events may come from there
+abbrev room : Need → ℕ
+room (Start stood next) = 1 + room next
+room (Turns left) = 2 * left
+room (WordFor left now) = 2 * left + 2
+room (ReceiptNow left) = 2 * left + 1
+room (ReadingFor left from bytes) = 2 * left + 1
+room (Act outcome behind) = room behind
+room _ = 0
+
+room_bound : {conf : Conf} {history : History} {cs : List ClockCall} {ws : List ℕ} {ls : List LinkCall} {es : List Event} {need last : Need}
+    → IsOfTurns need → Weaves conf need history cs ws ls es last → length es ≤ room need
+room_bound fits none = omega arith
+room_bound fits (acts tried sent s) = room_bound fits s
+room_bound fits (life s) = let rest = room_bound fits s in omega (arith, rest)
+room_bound fits (reads s) = let rest = room_bound tt s in omega (arith, rest)
+room_bound fits (draws s) = let rest = room_bound tt s in omega (arith, rest)
+room_bound fits (gets s) = let rest = room_bound tt s in omega (arith, rest)
+room_bound fits (quiet s) = let rest = room_bound tt s in omega (arith, rest)
+room_bound fits (lost s) = let rest = room_bound tt s in omega (arith, rest)
+room_bound fits (arrives s) = let rest = room_bound tt s in omega (arith, rest)
+room_bound fits (call_reads s) = absurd fits
+room_bound fits (call_draws s) = absurd fits
+room_bound fits (round_gets s) = absurd fits
+room_bound fits (round_quiet s) = absurd fits
+room_bound fits (round_lost s) = absurd fits
+room_bound fits (round_arrives s) = absurd fits
 
 -- ---- How long a capture is at most
 
@@ -173,15 +197,15 @@ printed_whole conf history end (NoLine deed front) need text done is reports = a
 same_number : (a b n : ℕ) → a ≡ min n (2 ^ 32 - 1) → b ≡ n → n ≤ 2000001 → a ≡ b
 same_number a b n capped is low = omega (arith, capped, is, low)
 
-events_low : {conf : Conf} {stood : Stood} {turns : ℕ} {history : History} {rs : List ℤ} {ws : List ℕ} {qs : List Receipt} {need : Need}
-    → (events missing : List Event) → Weaves conf (Start stood (Turns turns)) history rs ws qs (events ++ missing) need → turns ≤ 1000000 → length events ≤ 2000001
-events_low events missing weaves few = omega (arith, run_bound weaves, length-append events missing, few)
+events_low : {conf : Conf} {stood : Stood} {turns : ℕ} {history : History} {cs : List ClockCall} {ws : List ℕ} {ls : List LinkCall} {need : Need}
+    → (events missing : List Event) → Weaves conf (Start stood (Turns turns)) history cs ws ls (events ++ missing) need → turns ≤ 1000000 → length events ≤ 2000001
+events_low events missing weaves few = omega (arith, room_bound tt weaves, length-append events missing, few)
 
-same_total : (conf : Conf) (events : List Event) (end : LifeEnd) (again : ReplayEnd) (receipts : List Receipt) (tried : List _)
-    → length events ≤ 2000001 → Totals conf events receipts tried end → AreTotals conf (reverse events) again
+same_total : (conf : Conf) (events : List Event) (end : LifeEnd) (again : ReplayEnd) (calls : List LinkCall)
+    → length events ≤ 2000001 → Totals conf events calls end → AreTotals conf (reverse events) again
     → total_line end.sent end.moved end.refused ≡ total_line again.sent again.moved again.refused
 unfolding requests_of told moves_of
-same_total conf events end again receipts tried few totals are =
+same_total conf events end again calls few totals are =
     let history = reverse events in
     let entries = told conf history in
     let most : length entries ≤ 2000001 = omega (arith, few, told_length conf history, length-reverse events) in
@@ -201,20 +225,20 @@ own_record before now old capture record_bytes told grew added =
     sym (same_more old capture record_bytes seen)
 
 -- a run that ended well did each deed whole
-was_whole : (turns : ℕ) (entry exit : DiskTold) (before now : Seen) (capture : List ℕ) (run : Records turns entry exit before now capture) → IsWhole run.lived.lives.ending
+was_whole : (turns : ℕ) (entry exit : DiskTold) (before now : Seen) (capture : List ℕ) (run : Records turns entry exit before now capture) → IsWhole run.lived.lives.woven.ending
 was_whole turns entry exit before now capture run =
     let lived = run.lived in
-    let ends = subst (λ (w : Why). LifeEndsBy w lived.lives.ending lived.lives.need (member_seen before).faults (member_seen now).faults) lived.ended lived.lives.ends in
+    let ends = subst (λ (w : Why). LifeEndsBy w lived.lives.woven.ending lived.lives.woven.need (member_seen before).faults (member_seen now).faults) lived.ended lived.lives.ended.ends in
     ends.0
 
 -- what was recorded are the records of its events
-own_capture : (turns : ℕ) (entry exit : DiskTold) (before now : Seen) (capture : List ℕ) (run : Records turns entry exit before now capture) → SpellsEvents run.lived.lives.events capture
+own_capture : (turns : ℕ) (entry exit : DiskTold) (before now : Seen) (capture : List ℕ) (run : Records turns entry exit before now capture) → SpellsEvents run.lived.lives.woven.events capture
 own_capture turns entry exit before now capture run =
     let lives = run.lived.lives in
-    let whole = whole_text lives.ending (was_whole turns entry exit before now capture run) in
-    let added = subst (λ (l : List ℕ). Added before.capture now.capture l) (ap (λ (l : List ℕ). lives.record_bytes ++ l) whole ∙ append-nil lives.record_bytes) lives.capture in
-    let own = own_record before.capture now.capture run.old capture lives.record_bytes run.told run.grew added in
-    subst (λ (l : List ℕ). SpellsEvents lives.events l) own lives.spells
+    let whole = whole_text lives.woven.ending (was_whole turns entry exit before now capture run) in
+    let added = subst (λ (l : List ℕ). Added before.capture now.capture l) (ap (λ (l : List ℕ). lives.effects.record_bytes ++ l) whole ∙ append-nil lives.effects.record_bytes) lives.effects.capture in
+    let own = own_record before.capture now.capture run.old capture lives.effects.record_bytes run.told run.grew added in
+    subst (λ (l : List ℕ). SpellsEvents lives.woven.events l) own lives.effects.spells
 
 pub same_lines : (turns : ℕ) (entry exit : DiskTold) (before now later last : Seen) (capture : List ℕ) (run : Records turns entry exit before now capture)
     → ReplaysAgain run.lived.settings capture later last Done → WritesSameLines run.lived.end.quiet run.lived.end.lost before now later last
@@ -222,14 +246,14 @@ same_lines turns entry exit before now later last capture run again =
     let lived = run.lived in
     let lives = lived.lives in
     let spells = own_capture turns entry exit before now capture run in
-    let whole = again.promise.whole again.bytes capture lived.settings lived.conf lives.events again.told again.says lived.is_conf again.given spells refl in
-    let low = events_low lives.events (missing_in lives.ending) lives.weaves run.few in
-    let total = same_total lived.conf lives.events lived.end whole.0 _ _ low lives.totals whole.1.totals in
-    let text = printed_whole lived.conf (reverse lives.events) lived.end lives.ending lives.need lives.text lived.ended
-    (was_whole turns entry exit before now capture run) lives.reports in
+    let whole = again.promise.whole again.bytes capture lived.settings lived.conf lives.woven.events again.told again.says lived.is_conf again.given spells refl in
+    let low = events_low lives.woven.events (missing_in lives.woven.ending) lives.woven.weaves run.few in
+    let total = same_total lived.conf lives.woven.events lived.end whole.0 _ low lives.ended.totals whole.1.totals in
+    let text = printed_whole lived.conf (reverse lives.woven.events) lived.end lives.woven.ending lives.woven.need lives.effects.text lived.ended
+    (was_whole turns entry exit before now capture run) lives.effects.reports in
     record {
-      lines = report_of lived.conf (reverse lives.events) ++ total_line lived.end.sent lived.end.moved lived.end.refused;
-      run = subst (λ (l : List ℕ). Added before.written now.written l) text lives.out;
+      lines = report_of lived.conf (reverse lives.woven.events) ++ total_line lived.end.sent lived.end.moved lived.end.refused;
+      run = subst (λ (l : List ℕ). Added before.written now.written l) text lives.effects.out;
       replay = rw total whole.1.written;
     }
 
@@ -240,6 +264,6 @@ replay_done turns entry exit before now later last capture result run again faul
     let lived = run.lived in
     let lives = lived.lives in
     let spells = own_capture turns entry exit before now capture run in
-    let low = events_low lives.events (missing_in lives.ending) lives.weaves run.few in
-    let short : length capture < place_limit = omega (arith, capture_bound lives.events capture spells, low) in
-    again.promise.done_of again.bytes capture lived.settings lived.conf lives.events again.told again.says lived.is_conf again.given spells short lives.grows faultless
+    let low = events_low lives.woven.events (missing_in lives.woven.ending) lives.woven.weaves run.few in
+    let short : length capture < place_limit = omega (arith, capture_bound lives.woven.events capture spells, low) in
+    again.promise.done_of again.bytes capture lived.settings lived.conf lives.woven.events again.told again.says lived.is_conf again.given spells short lives.woven.grows faultless

@@ -12,7 +12,7 @@ use Rattle.w32t_settings.specs.declared.settings.Settings.{Settings}
 use Rattle.w32t_settings.specs.declared.settings.SettingsFault.TheVariants as fault
 use Rattle.w32t_settings.proofs.Exact.{one_answer}
 use Rattle.w32tm_cmd.specs.Config.{Configures, StopsAtConfig, TouchesConfigAlone, IsBadConfigExact, status_of}
-use Rattle.w32tm_cmd.specs.Seen.{Seen}
+use Rattle.w32tm_cmd.specs.Seen.{Seen, HasCause}
 use Rattle.w32tm_text.specs.declared.status.Status.{Status}
 use Rattle.w32tm_text.specs.declared.status.Status.TheVariants.{BadConfig, ReadFault, NoMemory}
 
@@ -105,8 +105,8 @@ stops_else before now other NoMemory bytes told says stops = inr refl
 stops_else before now other _ bytes told says stops = absurd stops
 
 -- a read that failed raised its count
-pub stops_read : (before now : Seen) (result : Status) → StopsAtConfig before now result → result ≡ ReadFault → Rose before.config_faults now.config_faults
-stops_read before now (BadConfig line) stops is = cc is
-stops_read before now ReadFault stops is = rose _ _ (stops.0).cause
-stops_read before now NoMemory stops is = cc is
-stops_read before now _ stops is = absurd stops
+pub stops_cause : (before now : Seen) (result : Status) → StopsAtConfig before now result → HasCause result before now
+stops_cause before now (BadConfig line) stops = tt
+stops_cause before now ReadFault stops = inl (rose _ _ (stops.0).cause)
+stops_cause before now NoMemory stops = tt
+stops_cause before now _ stops = absurd stops

@@ -4,9 +4,9 @@ use Rattle.base_specs.specs.Counts.{Rose}
 use Rattle.w32tm_cmd.specs.Dc.{DcPromise, RunsDc, IsDcComplete}
 use Rattle.w32tm_cmd.specs.Config.{IsBadConfigExact, StopsAtConfig}
 use Rattle.w32tm_cmd.specs.Seen.{Seen}
-use Rattle.w32tm_cmd.proofs.Configuring.{rose, settings_exact, stops_exact, stops_for_memory, stops_read}
+use Rattle.w32tm_cmd.proofs.Configuring.{rose, settings_exact, stops_exact, stops_for_memory}
 use Rattle.w32tm_text.specs.declared.status.Status.{Status}
-use Rattle.w32tm_text.specs.declared.status.Status.TheVariants.{Done, ReadFault, WriteFault, ClockFault}
+use Rattle.w32tm_text.specs.declared.status.Status.TheVariants.{Done, WriteFault, ClockFault}
 
 exact : (turns : ℕ) (before now : Seen) (result : Status) → RunsDc turns before now result → IsBadConfigExact before result
 exact turns before now Done runs = settings_exact before now runs.served.settings Done runs.served.configured
@@ -32,10 +32,3 @@ stopped turns before now Done stops = absurd stops
 stopped turns before now WriteFault stops = absurd stops
 stopped turns before now ClockFault stops = absurd stops
 stopped turns before now status stops = promises turns before now status stops (λ is. cc is)
-
--- a read that failed raised its count
-pub read_cause : (turns : ℕ) (before now : Seen) (result : Status) → RunsDc turns before now result → result ≡ ReadFault → Rose before.config_faults now.config_faults
-read_cause turns before now Done runs is = cc is
-read_cause turns before now WriteFault runs is = cc is
-read_cause turns before now ClockFault runs is = cc is
-read_cause turns before now status runs is = stops_read before now status runs is

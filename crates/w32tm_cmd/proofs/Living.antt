@@ -18,6 +18,7 @@ use Rattle.stamp_keep.specs.Keep.{IsLoadable}
 use Rattle.stamp_keep.specs.Slots.{HasOtherVersion}
 use Rattle.time_machine.specs.Machine.{told}
 use Rattle.w32t_settings.specs.declared.settings.Settings.{Settings}
+use Rattle.w32tm_cmd.specs.declared.outside.Outside.{Outside}
 use Rattle.w32tm_cmd.specs.Config.{StopsAtConfig}
 use Rattle.w32tm_cmd.specs.Member.{IsBadKeeperExact, IsMemberComplete, IsMemberFaultless, IsMemberDoneWithin, IsStampsSpentExact, LivesUntil, MemberPromise, RunsMember, member_seen}
 use Rattle.w32tm_cmd.specs.Partners.{HasNoPartner}
@@ -26,6 +27,22 @@ use Rattle.w32tm_cmd.proofs.Configuring.{same_settings, settings_exact, stops_ex
 use Rattle.w32tm_text.specs.Conf.{HasNoCandidate}
 use Rattle.w32tm_text.specs.declared.status.Status.{Status}
 use Rattle.w32tm_text.specs.declared.status.Status.TheVariants.{Done, WriteFault, DiskFault, BadKeeper, StampsSpent, ClockFault, EntropyFault, NoPartner}
+
+-- ---- The devices
+
+-- devices that stayed as they were, but for the settings' and the disk
+pub disk_alone : {S O L C D E : Type 0} (old new : Outside S O L C D E) → new.capture_in ≡ old.capture_in → new.link ≡ old.link → new.clock ≡ old.clock
+    → new.entropy ≡ old.entropy → new.out ≡ old.out → new.capture_out ≡ old.capture_out → new ≡ record old { config = new.config; disk = new.disk }
+disk_alone old new input link clock entropy out capture = λ i. record {
+  config = new.config;
+  capture_in = input i;
+  out = out i;
+  capture_out = capture i;
+  link = link i;
+  clock = clock i;
+  disk = new.disk;
+  entropy = entropy i;
+}
 
 -- ---- A life that was begun
 
@@ -73,7 +90,7 @@ complete_of : (turns : ℕ) (entry exit : DiskTold) (before now : Seen) (is : Wh
 complete_of turns entry exit before now why.Done runs j bytes content settings given says some disk loadable none = inl refl
 complete_of turns entry exit before now why.StampsSpent runs j bytes content settings given says some disk loadable none = inr (inr refl)
 complete_of turns entry exit before now why.BadVersion runs j bytes content settings given says some disk loadable none =
-    let kept = subst (λ (w : Why). KeptBy w runs.lives.stood runs.lives.events (told runs.conf (reverse runs.lives.events)) entry exit) runs.ended runs.lives.kept in
+    let kept = subst (λ (w : Why). KeptBy w runs.lives.stood runs.lives.woven.events (told runs.conf (reverse runs.lives.woven.events)) entry exit) runs.ended runs.lives.kept.kept in
     absurd (loads entry content disk loadable kept.1)
 complete_of turns entry exit before now why.DiskFault runs j bytes content settings given says some disk loadable none =
     absurd (no_end runs.end why.DiskFault runs.ended (λ is. cc is) (λ is. cc is) (λ is. cc is) (j.complete (none_rose before now none)))
@@ -89,7 +106,7 @@ fits_version : (turns : ℕ) (entry exit : DiskTold) (before now : Seen) (is : W
     → entry.content ≡ Some content → HasOtherVersion content → is ≢ why.BadVersion → is ≢ why.DiskFault → ⊥
 fits_version turns entry exit before now is runs content disk other no_version no_fault =
     let ended = runs.ended in
-    let loadable = runs.lives.loadable (inr (λ e. no_version (cc (e, ended)), λ e. no_fault (cc (e, ended)))) in
+    let loadable = runs.lives.kept.loadable (inr (λ e. no_version (cc (e, ended)), λ e. no_fault (cc (e, ended)))) in
     subst (λ (o : Option (List ℕ)). IfSome o IsLoadable) disk loadable other
 
 bad_keeper_of : (turns : ℕ) (entry exit : DiskTold) (before now : Seen) (is : Why) (runs : LivesUntil turns entry exit before now is)
@@ -113,15 +130,16 @@ had_room : (turns : ℕ) (entry exit : DiskTold) (before now : Seen) (runs : Liv
 unfolding told
 had_room turns entry exit before now runs content some disk above =
     let l = runs.lives in
-    let ends = subst (λ (w : Why). LifeEndsBy w l.ending l.need (member_seen before).faults (member_seen now).faults) runs.ended l.ends in
-    let given : l.events ++ missing_in l.ending ≡ l.events = ap (λ (es : List Event). l.events ++ es) (none_missing l.ending ends.0) ∙ append-nil l.events in
+    let w = l.woven in
+    let ends = subst (λ (why : Why). LifeEndsBy why w.ending w.need (member_seen before).faults (member_seen now).faults) runs.ended l.ended.ends in
+    let given : w.events ++ missing_in w.ending ≡ w.events = ap (λ (es : List Event). w.events ++ es) (none_missing w.ending ends.0) ∙ append-nil w.events in
     let P : List Event → Type 0 = λ (es : List Event). 1 ≤ blocks_in runs.conf es in
-    let all : P (reverse l.events) = subst P (followed_none (l.events ++ missing_in l.ending) ∙ ap reverse given) (whole_reserves l.weaves some (l.well runs.ended)) in
+    let all : P (reverse w.events) = subst P (followed_none (w.events ++ missing_in w.ending) ∙ ap reverse given) (whole_reserves w.weaves some (l.ended.well runs.ended)) in
     let mark : l.stood.mark ≡ mark_of_image content = subst (λ (o : Option (List ℕ)). IfSome o (λ c. l.stood.mark ≡ mark_of_image c)) disk l.stood_for in
-    let taken : l.events ≢ [] = λ none.
+    let taken : w.events ≢ [] = λ none.
     let nothing : P [] = subst P (ap reverse none) all in
     omega (arith, nothing) in
-    omega (arith, l.within taken, mark, above, all)
+    omega (arith, l.kept.within taken, mark, above, all)
 
 spent_by : {A B C : Type 0} → (A → ⊥) → A ⊎ (B ⊎ C) → C ⊎ B
 spent_by never (inl done) = absurd (never done)

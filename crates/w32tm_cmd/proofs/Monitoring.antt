@@ -4,9 +4,9 @@ use Rattle.base_specs.specs.Counts.{Rose}
 use Rattle.w32tm_cmd.specs.Monitor.{MonitorPromise, RunsMonitor, IsMonitorComplete}
 use Rattle.w32tm_cmd.specs.Config.{IsBadConfigExact, StopsAtConfig}
 use Rattle.w32tm_cmd.specs.Seen.{Seen}
-use Rattle.w32tm_cmd.proofs.Configuring.{settings_exact, stops_exact, stops_for_memory, stops_read}
+use Rattle.w32tm_cmd.proofs.Configuring.{settings_exact, stops_exact, stops_for_memory}
 use Rattle.w32tm_text.specs.declared.status.Status.{Status}
-use Rattle.w32tm_text.specs.declared.status.Status.TheVariants.{Done, ReadFault, WriteFault, ClockFault, EntropyFault}
+use Rattle.w32tm_text.specs.declared.status.Status.TheVariants.{Done, WriteFault, ClockFault, EntropyFault}
 
 -- each fault of a run raised its count
 pub record Causes (before now : Seen) (result : Status) : Type 0 where
@@ -38,11 +38,3 @@ stopped before now WriteFault stops = absurd stops
 stopped before now ClockFault stops = absurd stops
 stopped before now EntropyFault stops = absurd stops
 stopped before now status stops = promises before now status stops (record { write = λ is. cc is; clock = λ is. cc is; entropy = λ is. cc is })
-
--- a read that failed raised its count
-pub read_cause : (before now : Seen) (result : Status) → RunsMonitor before now result → result ≡ ReadFault → Rose before.config_faults now.config_faults
-read_cause before now Done runs is = cc is
-read_cause before now WriteFault runs is = cc is
-read_cause before now ClockFault runs is = cc is
-read_cause before now EntropyFault runs is = cc is
-read_cause before now status runs is = stops_read before now status runs is

@@ -9,7 +9,7 @@ use Rattle.dc_sign.specs.declared.outcome.Refusal.{Refusal}
 use Rattle.dc_sign.specs.Reply.{refusal_of}
 use Rattle.dc_sign.proofs.Replies.{too_long}
 use Rattle.w32tm_cmd.specs.Seen.{Seen, ReadsInput, HasNoFault}
-use Rattle.w32tm_cmd.specs.Sign.{request_limit, Signs, DecidesBy, IsSignAnswer}
+use Rattle.w32tm_cmd.specs.Sign.{request_limit, Signs, DecidesBy, IsSignAnswer, SignPromise}
 use Rattle.w32tm_text.specs.declared.status.Status.{Status}
 use Rattle.w32tm_text.specs.declared.status.Status.TheVariants.{Done, ReadFault, WriteFault, ClockFault, BadRequest}
 
@@ -31,7 +31,7 @@ taken_decides : (account : Account) (bytes input : List ℕ) (before now : Seen)
 taken_decides account bytes input before now told r =
     front_decides (account ∷ []) bytes input now.left (subst (λ (o : Option (List ℕ)). Took o now.left input) told r.took) r.most r.all
 
-pub decides_by : (account : Account) (bytes : List ℕ) (before now : Seen) (status : Status) → before.left ≡ Some bytes → Signs account before now status → DecidesBy account bytes status
+decides_by : (account : Account) (bytes : List ℕ) (before now : Seen) (status : Status) → before.left ≡ Some bytes → Signs account before now status → DecidesBy account bytes status
 decides_by account bytes before now Done told signs = taken_decides account bytes signs.prepared.input before now told signs.prepared.takes.read ∙ signs.prepared.accepted
 decides_by account bytes before now ReadFault told signs = tt
 decides_by account bytes before now WriteFault told signs = taken_decides account bytes signs.prepared.input before now told signs.prepared.takes.read ∙ signs.prepared.accepted
@@ -39,7 +39,7 @@ decides_by account bytes before now ClockFault told signs = tt
 decides_by account bytes before now (BadRequest reason) told signs = taken_decides account bytes signs.input before now told signs.takes.read ∙ signs.refused
 decides_by account bytes before now _ told signs = signs
 
-pub sign_answer : (account : Account) (before now : Seen) (status : Status) → Signs account before now status → IsSignAnswer status
+sign_answer : (account : Account) (before now : Seen) (status : Status) → Signs account before now status → IsSignAnswer status
 sign_answer account before now Done signs = tt
 sign_answer account before now ReadFault signs = tt
 sign_answer account before now WriteFault signs = tt
@@ -52,7 +52,7 @@ rose : (before now : ℕ) → Fails before now → Rose before now
 rose before now fails = omega (arith, fails.once)
 
 -- a run without a fault, of a request that is not refused, is done
-pub completes : (account : Account) (bytes : List ℕ) (before now : Seen) (status : Status) → HasNoFault before now → refusal_of (account ∷ []) bytes ≡ None
+completes : (account : Account) (bytes : List ℕ) (before now : Seen) (status : Status) → HasNoFault before now → refusal_of (account ∷ []) bytes ≡ None
     → Signs account before now status → DecidesBy account bytes status → status ≡ Done
 completes account bytes before now Done none accepted signs decides = refl
 completes account bytes before now ReadFault none accepted signs decides = absurd (none.read (rose _ _ signs.cause))
@@ -64,7 +64,7 @@ completes account bytes before now (BadRequest reason) none accepted signs decid
 completes account bytes before now _ none accepted signs decides = absurd signs
 
 -- a run without a fault, of a request that is refused, says why
-pub completes_refused : (account : Account) (bytes : List ℕ) (reason : Refusal) (before now : Seen) (status : Status) → HasNoFault before now → refusal_of (account ∷ []) bytes ≡ Some reason
+completes_refused : (account : Account) (bytes : List ℕ) (reason : Refusal) (before now : Seen) (status : Status) → HasNoFault before now → refusal_of (account ∷ []) bytes ≡ Some reason
     → Signs account before now status → DecidesBy account bytes status → status ≡ BadRequest reason
 completes_refused account bytes reason before now Done none refused signs decides =
     let wrong : Some reason ≡ None = sym refused ∙ decides in
@@ -76,3 +76,12 @@ completes_refused account bytes reason before now (BadRequest other) none refuse
     let same : Some other ≡ Some reason = sym decides ∙ refused in
     cc same
 completes_refused account bytes reason before now _ none refused signs decides = absurd signs
+
+pub promises : (account : Account) (before now : Seen) (result : Status) → Signs account before now result → SignPromise account before now result
+promises account before now result signs = record {
+  runs = signs;
+  answers = sign_answer account before now result signs;
+  exact = λ bytes told. decides_by account bytes before now result told signs;
+  complete = λ bytes told none accepted. completes account bytes before now result none accepted signs (decides_by account bytes before now result told signs);
+  refused = λ bytes reason told none refused. completes_refused account bytes reason before now result none refused signs (decides_by account bytes before now result told signs);
+}

@@ -1,12 +1,14 @@
 -- What the devices tell at a moment, and what a run did with each of them.
-use Rattle.std.specs.Prelude.{◌≡◌, ◌<◌, ◌≤◌, ℕ, List, length, Option}
+use Rattle.std.specs.Prelude.{◌≡◌, ◌⊎◌, ◌<◌, ◌≤◌, ℕ, List, length, Option, ⊤}
 use Rattle.base_specs.specs.Counts.{Rose}
 use Rattle.base_specs.specs.Told.{Took, IsUsedUp}
-use Rattle.edge_traits.specs.Clock.{ClockTold}
-use Rattle.edge_traits.specs.Link.{LinkTold}
+use Rattle.edge_traits.specs.Clock.{ClockCall}
+use Rattle.edge_traits.specs.Link.{LinkCall}
+use Rattle.w32tm_text.specs.declared.status.Status.{Status}
+use Rattle.w32tm_text.specs.declared.status.Status.TheVariants.{ReadFault, WriteFault, DiskFault, ClockFault, EntropyFault}
 
--- the bytes left of the settings and of the input, the bytes written to the output and to the capture, what the link and
--- the clock gave and took, the random words given, and the counts of failed calls
+-- the bytes left of the settings and of the input, the bytes written to the output and to the capture, the calls of the
+-- link and of the clock in their order, the random words given, and the counts of failed calls
 pub record Seen : Type 0 where
   pub config : Option (List ℕ)
   pub config_faults : ℕ
@@ -16,9 +18,9 @@ pub record Seen : Type 0 where
   pub write_faults : ℕ
   pub capture : Option (List ℕ)
   pub capture_faults : ℕ
-  pub link : Option LinkTold
+  pub link : Option (List LinkCall)
   pub link_faults : ℕ
-  pub clock : Option ClockTold
+  pub clock : Option (List ClockCall)
   pub clock_faults : ℕ
   pub disk_faults : ℕ
   pub words : Option (List ℕ)
@@ -36,7 +38,7 @@ pub record IsOutIdle (before now : Seen) : Type 0 where
   pub bytes : now.written ≡ before.written
   pub no_fault : now.write_faults ≡ before.write_faults
 
--- the clock was neither read nor moved
+-- the clock was neither read nor corrected
 pub record IsClockIdle (before now : Seen) : Type 0 where
   pub told : now.clock ≡ before.clock
   pub no_fault : now.clock_faults ≡ before.clock_faults
@@ -57,3 +59,19 @@ pub record NeverFalls (before now : Seen) : Type 0 where
   pub clock : before.clock_faults ≤ now.clock_faults
   pub disk : before.disk_faults ≤ now.disk_faults
   pub entropy : before.entropy_faults ≤ now.entropy_faults
+
+-- a fault that is answered raised the count of a call that it speaks of
+abbrev pub HasCause : Status → Seen → Seen → Type 0
+HasCause ReadFault before now =
+    Rose before.config_faults now.config_faults ⊎ Rose before.read_faults now.read_faults
+HasCause WriteFault before now =
+    Rose before.write_faults now.write_faults ⊎ Rose before.capture_faults now.capture_faults
+HasCause DiskFault before now = Rose before.disk_faults now.disk_faults
+HasCause ClockFault before now = Rose before.clock_faults now.clock_faults
+HasCause EntropyFault before now = Rose before.entropy_faults now.entropy_faults
+HasCause _ before now = ⊤
+
+-- no count falls, and each fault has its cause
+pub record FaultsHaveCauses (before now : Seen) (result : Status) : Type 0 where
+  pub counts : NeverFalls before now
+  pub cause : HasCause result before now

@@ -1,5 +1,5 @@
 -- The command `/show`: what a run writes, for each answer.
-use Rattle.std.specs.Prelude.{◌≡◌, ℕ, List, length}
+use Rattle.std.specs.Prelude.{◌≡◌, ◌↔◌, ℕ, List, length}
 use Rattle.base_specs.specs.Counts.{Fails}
 use Rattle.base_specs.specs.Told.{Added}
 use Rattle.ms_auth.specs.declared.packet.Packet.{Packet}
@@ -10,7 +10,7 @@ use Rattle.line_text.specs.Text.{joined, BreaksOff}
 use Rattle.w32tm_text.specs.Show.{show_lines}
 use Rattle.w32tm_text.specs.declared.status.Status.{Status}
 use Rattle.w32tm_text.specs.declared.status.Status.TheVariants.{Done, WriteFault, BadRequest}
-use Rattle.w32tm_cmd.specs.Seen.{Seen}
+use Rattle.w32tm_cmd.specs.Seen.{Seen, HasNoFault}
 
 -- the lines of the message that the bytes spell were written
 pub record WritesMessage (bytes : List ℕ) (before now : Seen) : Type 0 where
@@ -47,3 +47,11 @@ IsShowAnswer Done = Unit {0}
 IsShowAnswer WriteFault = Unit {0}
 IsShowAnswer (BadRequest reason) = reason ≡ BadLength
 IsShowAnswer _ = ⊥
+
+-- all that `/show` promises of what is told: it refuses exactly the bytes that spell no message, and is done where they
+-- spell one and no call failed
+pub record ShowPromise (bytes : List ℕ) (before now : Seen) (result : Status) : Type 0 where
+  pub runs : Shows bytes before now result
+  pub answers : IsShowAnswer result
+  pub exact : (result ≡ BadRequest BadLength) ↔ ¬ IsPacketLength (length bytes)
+  pub complete : HasNoFault before now → IsPacketLength (length bytes) → result ≡ Done

@@ -11,13 +11,13 @@ use Rattle.dc_sign.specs.Reply.{refusal_of, IsReplyOf}
 use Rattle.dc_sign.specs.Info.{IsLocalInfo}
 use Rattle.w32tm_text.specs.declared.status.Status.{Status}
 use Rattle.w32tm_text.specs.declared.status.Status.TheVariants.{Done, ReadFault, WriteFault, ClockFault, BadRequest}
-use Rattle.w32tm_cmd.specs.Seen.{Seen, ReadsInput, IsOutIdle, IsClockIdle}
+use Rattle.w32tm_cmd.specs.Seen.{Seen, ReadsInput, IsOutIdle, IsClockIdle, HasNoFault}
 
 -- the most bytes that are read of a request, one more than a datagram holds
 abbrev pub request_limit : ℕ
 request_limit = 257
 
--- the request was read, then the clock twice; no move was made
+-- the request was read, and the clock gave these two readings; no correction was made
 pub record TakesRequest (before now : Seen) (input : List ℕ) (t2 t3 : ℤ) : Type 0 where
   pub read : ReadsInput request_limit before now input
   pub readings : GaveReadings before.clock now.clock (t2 ∷ t3 ∷ [])
@@ -102,3 +102,25 @@ IsSignAnswer WriteFault = Unit {0}
 IsSignAnswer ClockFault = Unit {0}
 IsSignAnswer (BadRequest reason) = Unit {0}
 IsSignAnswer _ = ⊥
+
+-- where the input tells its bytes, they decide
+abbrev pub IsSignExact : Account → Seen → Status → Type 0
+IsSignExact account before result = (bytes : List ℕ) → before.left ≡ Some bytes → DecidesBy account bytes result
+
+-- where the input tells its bytes, no call failed and they are not refused, the reply is written
+abbrev pub IsSignComplete : Account → Seen → Seen → Status → Type 0
+IsSignComplete account before now result = (bytes : List ℕ) → before.left ≡ Some bytes → HasNoFault before now
+    → refusal_of (account ∷ []) bytes ≡ None → result ≡ Done
+
+-- where the input tells its bytes and no call failed, they are refused for their reason
+abbrev pub IsSignRefusal : Account → Seen → Seen → Status → Type 0
+IsSignRefusal account before now result = (bytes : List ℕ) (reason : Refusal) → before.left ≡ Some bytes
+    → HasNoFault before now → refusal_of (account ∷ []) bytes ≡ Some reason → result ≡ BadRequest reason
+
+-- all that `/sign` promises of what is told
+pub record SignPromise (account : Account) (before now : Seen) (result : Status) : Type 0 where
+  pub runs : Signs account before now result
+  pub answers : IsSignAnswer result
+  pub exact : IsSignExact account before result
+  pub complete : IsSignComplete account before now result
+  pub refused : IsSignRefusal account before now result

@@ -1,8 +1,21 @@
 -- Which devices a command touches, for each of its answers.
 use Rattle.std.specs.Prelude.{◌≡◌}
 use Rattle.w32tm_text.specs.declared.status.Status.{Status}
-use Rattle.w32tm_text.specs.declared.status.Status.TheVariants.{Done, BadCapture, ReadFault, WriteFault, DiskFault, BadKeeper, StampsSpent, ClockFault, EntropyFault}
+use Rattle.w32tm_text.specs.declared.status.Status.TheVariants.{Done, BadCapture, BadRequest, ReadFault, WriteFault, DiskFault, BadKeeper, StampsSpent, ClockFault, EntropyFault}
 use Rattle.w32tm_cmd.specs.declared.outside.Outside.{Outside}
+
+-- `/sign` touches the input, the clock and the output; the input alone where a read failed, and no output where no
+-- reply is written
+abbrev pub SignTouches : {S O L C D E : Type 0} → Outside S O L C D E → Outside S O L C D E → Status → Type 0
+SignTouches old new ReadFault = new ≡ record old { capture_in = new.capture_in }
+SignTouches old new ClockFault = new ≡ record old { capture_in = new.capture_in; clock = new.clock }
+SignTouches old new (BadRequest reason) = new ≡ record old { capture_in = new.capture_in; clock = new.clock }
+SignTouches old new _ = new ≡ record old { capture_in = new.capture_in; out = new.out; clock = new.clock }
+
+-- `/show` touches the output, and nothing where it refuses
+abbrev pub ShowTouches : {S O L C D E : Type 0} → Outside S O L C D E → Outside S O L C D E → Status → Type 0
+ShowTouches old new (BadRequest reason) = new ≡ old
+ShowTouches old new _ = new ≡ record old { out = new.out }
 
 -- `/dc` touches the settings, the link, the clock and the output; no output where a reading failed, and nothing but the
 -- settings where there are none
@@ -47,12 +60,13 @@ ReplayTouches old new _ = new ≡ record old { config = new.config }
 abbrev pub TouchesLived : {S O L C D E : Type 0} → Outside S O L C D E → Outside S O L C D E → Type 0
 TouchesLived old new = new ≡ record new { capture_in = old.capture_in }
 
--- `/member` touches all but the input, and nothing but the settings where there are none or no partner is among them
+-- `/member` touches all but the input; the settings and the disk where that is of another version, and nothing but the
+-- settings where there are none or no partner is among them
 abbrev pub MemberTouches : {S O L C D E : Type 0} → Outside S O L C D E → Outside S O L C D E → Status → Type 0
 MemberTouches old new Done = TouchesLived old new
 MemberTouches old new WriteFault = TouchesLived old new
 MemberTouches old new DiskFault = TouchesLived old new
-MemberTouches old new BadKeeper = TouchesLived old new
+MemberTouches old new BadKeeper = new ≡ record old { config = new.config; disk = new.disk }
 MemberTouches old new StampsSpent = TouchesLived old new
 MemberTouches old new ClockFault = TouchesLived old new
 MemberTouches old new EntropyFault = TouchesLived old new

@@ -1,7 +1,7 @@
 //! The command `/dc`: a controller answers and signs what comes over the link.
 ghost use Rattle.std.specs.Prelude.{◌≡◌};
 ghost use Rattle.w32tm_cmd.specs.Dc.{DcPromise};
-ghost use Rattle.w32tm_cmd.specs.Seen.{NeverFalls};
+ghost use Rattle.w32tm_cmd.specs.Seen.{FaultsHaveCauses};
 ghost use Rattle.w32tm_cmd.specs.Touching.{DcTouches};
 
 use crate::config::status_of;
@@ -23,8 +23,8 @@ pub(crate) fn serve_requests<S: Source, O: Sink, L: Link, C: Clock, D: Disk, E: 
     ensures dc { let seen = ⟦<Outside<S, O, L, C, D, E> as Tells>⟧.seen in
         DcPromise turns (seen outside.old) (seen outside.new) result }
     ensures touches { DcTouches outside.old outside.new result }
-    ensures counts { let seen = ⟦<Outside<S, O, L, C, D, E> as Tells>⟧.seen in
-        NeverFalls (seen outside.old) (seen outside.new) }
+    ensures causes { let seen = ⟦<Outside<S, O, L, C, D, E> as Tells>⟧.seen in
+        FaultsHaveCauses (seen outside.old) (seen outside.new) result }
 {
     let settings = match settings_from(alloc, &mut outside.config) {
         Ok(settings) => settings,

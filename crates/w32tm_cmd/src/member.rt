@@ -2,7 +2,7 @@
 ghost use Rattle.std.specs.Prelude.{◌≡◌};
 ghost use Rattle.w32tm_cmd.specs.Config.{status_of};
 ghost use Rattle.w32tm_cmd.specs.Member.{MemberPromise};
-ghost use Rattle.w32tm_cmd.specs.Seen.{NeverFalls};
+ghost use Rattle.w32tm_cmd.specs.Seen.{FaultsHaveCauses};
 ghost use Rattle.w32tm_cmd.specs.Touching.{MemberTouches};
 
 use crate::config::status_of;
@@ -25,8 +25,8 @@ pub(crate) fn keep_clock<S: Source, O: Sink, L: Link, C: Clock, D: Disk, E: Entr
         MemberPromise turns (disk outside.old) (disk outside.new)
         (seen outside.old) (seen outside.new) result }
     ensures touches { MemberTouches outside.old outside.new result }
-    ensures counts { let seen = ⟦<Outside<S, O, L, C, D, E> as Tells>⟧.seen in
-        NeverFalls (seen outside.old) (seen outside.new) }
+    ensures causes { let seen = ⟦<Outside<S, O, L, C, D, E> as Tells>⟧.seen in
+        FaultsHaveCauses (seen outside.old) (seen outside.new) result }
 {
     let settings = match settings_from(alloc, &mut outside.config) {
         Ok(settings) => settings,

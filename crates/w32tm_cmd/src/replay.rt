@@ -1,9 +1,9 @@
 //! The command `/replay`: a member is stepped through a capture.
-ghost use Rattle.std.specs.Prelude.{◌≡◌, ◌⊎◌};
+ghost use Rattle.std.specs.Prelude.{◌≡◌};
 ghost use Rattle.base_specs.specs.Counts.{Rose};
 ghost use Rattle.w32tm_cmd.specs.Config.{status_of};
 ghost use Rattle.w32tm_cmd.specs.Replay.{ReplayPromise};
-ghost use Rattle.w32tm_cmd.specs.Seen.{NeverFalls};
+ghost use Rattle.w32tm_cmd.specs.Seen.{FaultsHaveCauses};
 ghost use Rattle.w32tm_cmd.specs.Touching.{ReplayTouches};
 
 use crate::config::status_of;
@@ -22,17 +22,13 @@ pub(crate) fn replay_capture<S: Source, O: Sink, L: Link, C: Clock, D: Disk, E: 
 ) -> Status
     ensures replay { let seen = ⟦<Outside<S, O, L, C, D, E> as Tells>⟧.seen in
         ReplayPromise (seen outside.old) (seen outside.new) result }
-    ensures read_cause { let seen = ⟦<Outside<S, O, L, C, D, E> as Tells>⟧.seen in
-        result ≡ Status.ReadFault
-        → Rose (seen outside.old).config_faults (seen outside.new).config_faults
-        ⊎ Rose (seen outside.old).read_faults (seen outside.new).read_faults }
     ensures touches { ReplayTouches outside.old outside.new result }
     ensures config_fault { let seen = ⟦<Outside<S, O, L, C, D, E> as Tells>⟧.seen in
         result ≡ Status.ReadFault
         → ¬ Rose (seen outside.old).read_faults (seen outside.new).read_faults
         → outside.new ≡ record outside.old { config = outside.new.config } }
-    ensures counts { let seen = ⟦<Outside<S, O, L, C, D, E> as Tells>⟧.seen in
-        NeverFalls (seen outside.old) (seen outside.new) }
+    ensures causes { let seen = ⟦<Outside<S, O, L, C, D, E> as Tells>⟧.seen in
+        FaultsHaveCauses (seen outside.old) (seen outside.new) result }
 {
     let settings = match settings_from(alloc, &mut outside.config) {
         Ok(settings) => settings,

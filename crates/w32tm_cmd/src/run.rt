@@ -1,19 +1,15 @@
 //! The top call.
-ghost use Rattle.std.specs.Prelude.{◌≡◌, ◌↔◌, ◌⊎◌, ℕ, List, [], ◌∷◌, length, None, Some};
+ghost use Rattle.std.specs.Prelude.{◌≡◌, ◌↔◌, ℕ, List};
 ghost use Rattle.base_specs.specs.Counts.{Rose};
 ghost use Rattle.key_book.specs.declared.account.Account.{Account};
-ghost use Rattle.dc_sign.specs.declared.outcome.Refusal.{Refusal};
-ghost use Rattle.dc_sign.specs.Reply.{refusal_of};
-ghost use Rattle.ms_auth.specs.Packet.{IsPacketLength};
-ghost use Rattle.w32tm_text.specs.declared.status.Status.TheVariants.{BadRequest};
 ghost use Rattle.w32tm_cmd.specs.Dc.{DcPromise};
 ghost use Rattle.w32tm_cmd.specs.Member.{MemberPromise};
 ghost use Rattle.w32tm_cmd.specs.Monitor.{MonitorPromise};
 ghost use Rattle.w32tm_cmd.specs.Replay.{ReplayPromise};
-ghost use Rattle.w32tm_cmd.specs.Seen.{HasNoFault, NeverFalls};
-ghost use Rattle.w32tm_cmd.specs.Show.{Shows, IsShowAnswer};
-ghost use Rattle.w32tm_cmd.specs.Sign.{Signs, DecidesBy, IsSignAnswer};
-ghost use Rattle.w32tm_cmd.specs.Touching.{DcTouches, MemberTouches, MonitorTouches, ReplayTouches};
+ghost use Rattle.w32tm_cmd.specs.Seen.{FaultsHaveCauses};
+ghost use Rattle.w32tm_cmd.specs.Show.{ShowPromise};
+ghost use Rattle.w32tm_cmd.specs.Sign.{SignPromise};
+ghost use Rattle.w32tm_cmd.specs.Touching.{DcTouches, MemberTouches, MonitorTouches, ReplayTouches, ShowTouches, SignTouches};
 ghost use Rattle.w32tm_text.specs.Words.{IsDc, IsMember, IsMonitor, IsReplay, IsShow, IsSign, SpellNothing, texts};
 
 use crate::dc::serve_requests;
@@ -51,72 +47,20 @@ pub fn w32tm<S: Source, O: Sink, L: Link, C: Clock, D: Disk, E: Entropy>(
     ensures bad_words { (result ≡ Status.BadWords) ↔ SpellNothing (texts words.now.items) }
     ensures untouched { result ≡ Status.BadWords → outside.new ≡ outside.old }
 
-    // What `/sign` asks of the devices and leaves there, for each answer.
+    // What `/sign` asks of the devices and leaves there, for each answer; that the request decides, where it is told; and
+    // when it is answered or refused.
     ensures sign { let seen = ⟦<Outside<S, O, L, C, D, E> as Tells>⟧.seen in
         (account : Account) → IsSign account (texts words.now.items)
-        → Signs account (seen outside.old) (seen outside.new) result }
-    ensures sign_answers { (account : Account) → IsSign account (texts words.now.items)
-        → IsSignAnswer result }
+        → SignPromise account (seen outside.old) (seen outside.new) result }
+    ensures sign_touches { (account : Account) → IsSign account (texts words.now.items)
+        → SignTouches outside.old outside.new result }
 
-    // It touches no other device: the input alone before a failed read, and no output where no reply is
-    // written.
-    ensures sign_others { (account : Account) → IsSign account (texts words.now.items)
-        → outside.new ≡ record outside.old {
-          capture_in = outside.new.capture_in;
-          out = outside.new.out;
-          clock = outside.new.clock;
-        } }
-    ensures sign_read_fault { (account : Account) → IsSign account (texts words.now.items)
-        → result ≡ Status.ReadFault
-        → outside.new ≡ record outside.old { capture_in = outside.new.capture_in } }
-    ensures sign_clock_fault { (account : Account) → IsSign account (texts words.now.items)
-        → result ≡ Status.ClockFault
-        → outside.new ≡ record outside.old {
-          capture_in = outside.new.capture_in;
-          clock = outside.new.clock;
-        } }
-    ensures sign_refused { (account : Account) (reason : Refusal)
-        → IsSign account (texts words.now.items) → result ≡ BadRequest reason
-        → outside.new ≡ record outside.old {
-          capture_in = outside.new.capture_in;
-          clock = outside.new.clock;
-        } }
-
-    // Where the input tells its bytes, they decide.
-    ensures request { let seen = ⟦<Outside<S, O, L, C, D, E> as Tells>⟧.seen in
-        (account : Account) (bytes : List ℕ) → IsSign account (texts words.now.items)
-        → (seen outside.old).left ≡ Some bytes → DecidesBy account bytes result }
-
-    // Where no call failed, the request is answered, or refused for its reason.
-    ensures complete { let seen = ⟦<Outside<S, O, L, C, D, E> as Tells>⟧.seen in
-        (account : Account) (bytes : List ℕ) → IsSign account (texts words.now.items)
-        → (seen outside.old).left ≡ Some bytes → HasNoFault (seen outside.old) (seen outside.new)
-        → refusal_of (account ∷ []) bytes ≡ None → result ≡ Status.Done }
-    ensures complete_refused { let seen = ⟦<Outside<S, O, L, C, D, E> as Tells>⟧.seen in
-        (account : Account) (bytes : List ℕ) (reason : Refusal)
-        → IsSign account (texts words.now.items)
-        → (seen outside.old).left ≡ Some bytes → HasNoFault (seen outside.old) (seen outside.new)
-        → refusal_of (account ∷ []) bytes ≡ Some reason → result ≡ BadRequest reason }
-
-    // What `/show` writes, for each answer. It touches the output alone, and nothing where it refuses.
+    // The same of `/show`, which refuses exactly what is no message.
     ensures show { let seen = ⟦<Outside<S, O, L, C, D, E> as Tells>⟧.seen in
         (bytes : List ℕ) → IsShow bytes (texts words.now.items)
-        → Shows bytes (seen outside.old) (seen outside.new) result }
-    ensures show_answers { (bytes : List ℕ) → IsShow bytes (texts words.now.items)
-        → IsShowAnswer result }
-    ensures show_others { (bytes : List ℕ) → IsShow bytes (texts words.now.items)
-        → outside.new ≡ record outside.old { out = outside.new.out } }
-    ensures show_refused { (bytes : List ℕ) (reason : Refusal)
-        → IsShow bytes (texts words.now.items) → result ≡ BadRequest reason
-        → outside.new ≡ outside.old }
-
-    // It refuses exactly the bytes that spell no message, and is done where no call failed.
-    ensures show_bad_length { (bytes : List ℕ) → IsShow bytes (texts words.now.items)
-        → (result ≡ BadRequest Refusal.BadLength) ↔ ¬ IsPacketLength (length bytes) }
-    ensures show_complete { let seen = ⟦<Outside<S, O, L, C, D, E> as Tells>⟧.seen in
-        (bytes : List ℕ) → IsShow bytes (texts words.now.items)
-        → HasNoFault (seen outside.old) (seen outside.new) → IsPacketLength (length bytes)
-        → result ≡ Status.Done }
+        → ShowPromise bytes (seen outside.old) (seen outside.new) result }
+    ensures show_touches { (bytes : List ℕ) → IsShow bytes (texts words.now.items)
+        → ShowTouches outside.old outside.new result }
 
     // What `/dc` asks of the devices and leaves there, for each answer; that a bad text is named exactly; and when it
     // is done.
@@ -155,25 +99,8 @@ pub fn w32tm<S: Source, O: Sink, L: Link, C: Clock, D: Disk, E: Entropy>(
         → outside.new ≡ record outside.old { config = outside.new.config } }
 
     // No count falls, and each fault has its cause.
-    ensures counts { let seen = ⟦<Outside<S, O, L, C, D, E> as Tells>⟧.seen in
-        NeverFalls (seen outside.old) (seen outside.new) }
-    ensures read_fault { let seen = ⟦<Outside<S, O, L, C, D, E> as Tells>⟧.seen in
-        result ≡ Status.ReadFault
-        → Rose (seen outside.old).config_faults (seen outside.new).config_faults
-        ⊎ Rose (seen outside.old).read_faults (seen outside.new).read_faults }
-    ensures write_fault { let seen = ⟦<Outside<S, O, L, C, D, E> as Tells>⟧.seen in
-        result ≡ Status.WriteFault
-        → Rose (seen outside.old).write_faults (seen outside.new).write_faults
-        ⊎ Rose (seen outside.old).capture_faults (seen outside.new).capture_faults }
-    ensures disk_fault { let seen = ⟦<Outside<S, O, L, C, D, E> as Tells>⟧.seen in
-        result ≡ Status.DiskFault
-        → Rose (seen outside.old).disk_faults (seen outside.new).disk_faults }
-    ensures clock_fault { let seen = ⟦<Outside<S, O, L, C, D, E> as Tells>⟧.seen in
-        result ≡ Status.ClockFault
-        → Rose (seen outside.old).clock_faults (seen outside.new).clock_faults }
-    ensures entropy_fault { let seen = ⟦<Outside<S, O, L, C, D, E> as Tells>⟧.seen in
-        result ≡ Status.EntropyFault
-        → Rose (seen outside.old).entropy_faults (seen outside.new).entropy_faults }
+    ensures causes { let seen = ⟦<Outside<S, O, L, C, D, E> as Tells>⟧.seen in
+        FaultsHaveCauses (seen outside.old) (seen outside.new) result }
 {
     match read_words(words) {
         Err(_) => Status::BadWords,

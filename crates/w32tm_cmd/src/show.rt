@@ -1,8 +1,7 @@
 //! The command `/show`: the fields of a message are printed.
-ghost use Rattle.std.specs.Prelude.{◌≡◌};
-ghost use Rattle.dc_sign.specs.declared.outcome.Refusal.{Refusal};
+ghost use Rattle.w32tm_cmd.specs.Seen.{FaultsHaveCauses};
 ghost use Rattle.w32tm_cmd.specs.Show.{Shows};
-ghost use Rattle.w32tm_text.specs.declared.status.Status.TheVariants.{BadRequest};
+ghost use Rattle.w32tm_cmd.specs.Touching.{ShowTouches};
 
 use crate::writing::write_lines;
 use crate::{Outside, Status, Tells};
@@ -19,10 +18,9 @@ pub(crate) fn show_message<S: Source, O: Sink, L: Link, C: Clock, D: Disk, E: En
 ) -> Status
     ensures show { let seen = ⟦<Outside<S, O, L, C, D, E> as Tells>⟧.seen in
         Shows bytes.now (seen outside.old) (seen outside.new) result }
-
-    // What each answer leaves as it was.
-    ensures others { outside.new ≡ record outside.old { out = outside.new.out } }
-    ensures refused { (reason : Refusal) → result ≡ BadRequest reason → outside.new ≡ outside.old }
+    ensures touches { ShowTouches outside.old outside.new result }
+    ensures causes { let seen = ⟦<Outside<S, O, L, C, D, E> as Tells>⟧.seen in
+        FaultsHaveCauses (seen outside.old) (seen outside.new) result }
 {
     let Ok(message) = read_packet(bytes) else {
         return Status::BadRequest {

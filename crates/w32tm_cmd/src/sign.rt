@@ -1,8 +1,7 @@
 //! The command `/sign`: a time request is read and answered as a domain controller answers it.
-ghost use Rattle.std.specs.Prelude.{◌≡◌};
-ghost use Rattle.dc_sign.specs.declared.outcome.Refusal.{Refusal};
+ghost use Rattle.w32tm_cmd.specs.Seen.{FaultsHaveCauses};
 ghost use Rattle.w32tm_cmd.specs.Sign.{Signs};
-ghost use Rattle.w32tm_text.specs.declared.status.Status.TheVariants.{BadRequest};
+ghost use Rattle.w32tm_cmd.specs.Touching.{SignTouches};
 
 use crate::{Outside, Status, Tells};
 use dc_sign::{Answer, ServerInfo, answer, two_readings};
@@ -21,25 +20,9 @@ pub(crate) fn sign_request<S: Source, O: Sink, L: Link, C: Clock, D: Disk, E: En
 ) -> Status
     ensures sign { let seen = ⟦<Outside<S, O, L, C, D, E> as Tells>⟧.seen in
         Signs account.now (seen outside.old) (seen outside.new) result }
-
-    // What each answer leaves as it was.
-    ensures others { outside.new ≡ record outside.old {
-      capture_in = outside.new.capture_in;
-      out = outside.new.out;
-      clock = outside.new.clock;
-    } }
-    ensures read_fault { result ≡ Status.ReadFault
-        → outside.new ≡ record outside.old { capture_in = outside.new.capture_in } }
-    ensures clock_fault { result ≡ Status.ClockFault
-        → outside.new ≡ record outside.old {
-          capture_in = outside.new.capture_in;
-          clock = outside.new.clock;
-        } }
-    ensures refused { (reason : Refusal) → result ≡ BadRequest reason
-        → outside.new ≡ record outside.old {
-          capture_in = outside.new.capture_in;
-          clock = outside.new.clock;
-        } }
+    ensures touches { SignTouches outside.old outside.new result }
+    ensures causes { let seen = ⟦<Outside<S, O, L, C, D, E> as Tells>⟧.seen in
+        FaultsHaveCauses (seen outside.old) (seen outside.new) result }
 {
     let mut input = [0; INPUT_LEN];
     let Filled::Bytes(count) = fill_front(&mut outside.capture_in, &mut input) else {

@@ -1,5 +1,5 @@
-use Rattle.std.proofs.Common.{refl}
-use Rattle.w32tm_cmd.proofs.Configuring.{stops}
+use Rattle.std.proofs.Common.{refl, rules}
+use Rattle.w32tm_cmd.proofs.Configuring.{stops, stops_cause}
 use Rattle.w32tm_cmd.proofs.Controlling.{promises, stopped}
 use Rattle.w32tm_cmd.proofs.dc.serve_requests.Goals as goal
 
@@ -7,6 +7,12 @@ use Rattle.w32tm_cmd.proofs.dc.serve_requests.Goals as goal
 pub returns-in-Err-clause-dc : goal.returns-in-Err-clause-dc
 returns-in-Err-clause-dc g c =
     rw c.status_of.ensures (stopped c.args.turns _ _ _ (stops _ _ c.in-Err.fault c.in-Err.ensures.reads refl))
+
+pub returns-in-Err-clause-causes : goal.returns-in-Err-clause-causes
+returns-in-Err-clause-causes g c = record {
+  counts = search rules;
+  cause = rw c.status_of.ensures (stops_cause _ _ _ (stops _ _ c.in-Err.fault c.in-Err.ensures.reads refl));
+}
 
 -- a reading failed
 pub returns-in-ClockFault-clause-dc : goal.returns-in-ClockFault-clause-dc

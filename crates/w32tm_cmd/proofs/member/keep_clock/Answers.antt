@@ -1,13 +1,19 @@
-use Rattle.std.proofs.Common.{refl}
+use Rattle.std.proofs.Common.{refl, rules}
 use Rattle.run_deeds.specs.declared.life_end.Why.TheVariants as why
-use Rattle.w32tm_cmd.proofs.Configuring.{stops}
-use Rattle.w32tm_cmd.proofs.Living.{judged, partnerless, stopped}
+use Rattle.w32tm_cmd.proofs.Configuring.{stops, stops_cause}
+use Rattle.w32tm_cmd.proofs.Living.{disk_alone, judged, partnerless, stopped}
 use Rattle.w32tm_cmd.proofs.member.keep_clock.Goals as goal
 
 -- no settings
 pub returns-in-Err-clause-member : goal.returns-in-Err-clause-member
 returns-in-Err-clause-member g c =
     rw c.status_of.ensures (stopped c.args.turns _ _ _ _ _ (stops _ _ c.in-Err.fault c.in-Err.ensures.reads refl))
+
+pub returns-in-Err-clause-causes : goal.returns-in-Err-clause-causes
+returns-in-Err-clause-causes g c = record {
+  counts = search rules;
+  cause = rw c.status_of.ensures (stops_cause _ _ _ (stops _ _ c.in-Err.fault c.in-Err.ensures.reads refl));
+}
 
 -- no candidate
 pub returns-in-Err-NoPartner-clause-member : goal.returns-in-Err-NoPartner-clause-member
@@ -132,3 +138,9 @@ returns-clause-member g c = judged c.args.turns _ _ _ _ why.SinkFault (record {
   some = λ none. let wrong = c.in-Ok-conf_of.ensures.no_partner.1 none in cc wrong;
   complete = c.live-end.ensures.complete;
 })
+
+-- a disk of another version: no device but the settings' and the disk was touched
+pub returns-in-BadVersion-clause-touches : goal.returns-in-BadVersion-clause-touches
+returns-in-BadVersion-clause-touches g c =
+    let same = c.live-end.ensures.untouched c.in-BadVersion.is in
+    disk_alone c.args.outside.now _ refl same.0 same.1 same.2 same.3 same.4

@@ -1,5 +1,5 @@
-use Rattle.std.proofs.Common.{refl}
-use Rattle.w32tm_cmd.proofs.Configuring.{stops}
+use Rattle.std.proofs.Common.{refl, rules}
+use Rattle.w32tm_cmd.proofs.Configuring.{stops, stops_cause}
 use Rattle.w32tm_cmd.proofs.Monitoring.{promises, stopped}
 use Rattle.w32tm_cmd.proofs.monitor.ask_computers.Goals as goal
 
@@ -7,6 +7,12 @@ use Rattle.w32tm_cmd.proofs.monitor.ask_computers.Goals as goal
 pub returns-in-Err-clause-monitor : goal.returns-in-Err-clause-monitor
 returns-in-Err-clause-monitor g c =
     rw c.status_of.ensures (stopped _ _ _ (stops _ _ c.in-Err.fault c.in-Err.ensures.reads refl))
+
+pub returns-in-Err-clause-causes : goal.returns-in-Err-clause-causes
+returns-in-Err-clause-causes g c = record {
+  counts = search rules;
+  cause = rw c.status_of.ensures (stops_cause _ _ _ (stops _ _ c.in-Err.fault c.in-Err.ensures.reads refl));
+}
 
 -- each end of the run
 pub returns-in-Done-clause-monitor : goal.returns-in-Done-clause-monitor

@@ -1,6 +1,6 @@
-use Rattle.std.proofs.Common.{refl, inl, inr}
+use Rattle.std.proofs.Common.{refl, rules, inl, inr}
 use Rattle.replay_run.specs.declared.end.ReplayWhy.TheVariants as why
-use Rattle.w32tm_cmd.proofs.Configuring.{stops}
+use Rattle.w32tm_cmd.proofs.Configuring.{stops, stops_cause}
 use Rattle.w32tm_cmd.proofs.Replaying.{judged, partnerless, stopped}
 use Rattle.w32tm_cmd.proofs.replay.replay_capture.Goals as goal
 
@@ -8,6 +8,12 @@ use Rattle.w32tm_cmd.proofs.replay.replay_capture.Goals as goal
 pub returns-in-Err-clause-replay : goal.returns-in-Err-clause-replay
 returns-in-Err-clause-replay g c =
     rw c.status_of.ensures (stopped _ _ _ (stops _ _ c.in-Err.fault c.in-Err.ensures.reads refl))
+
+pub returns-in-Err-clause-causes : goal.returns-in-Err-clause-causes
+returns-in-Err-clause-causes g c = record {
+  counts = search rules;
+  cause = rw c.status_of.ensures (stops_cause _ _ _ (stops _ _ c.in-Err.fault c.in-Err.ensures.reads refl));
+}
 
 -- no candidate
 pub returns-in-Err-NoPartner-clause-replay : goal.returns-in-Err-NoPartner-clause-replay

@@ -1,10 +1,8 @@
-use Rattle.std.proofs.Common.{◌≡◌, inl, refl}
+use Rattle.std.proofs.Common.{◌≡◌, refl}
 use Rattle.w32tm_text.specs.declared.words.Action.TheVariants.{Sign, Show, Dc, Member, Monitor, Replay}
 use Rattle.w32tm_cmd.proofs.Commands.{is_read, same_action}
-use Rattle.w32tm_cmd.proofs.Showing.{refused_length, length_refused}
-use Rattle.w32tm_cmd.proofs.Signing.{decides_by, completes, completes_refused}
-use Rattle.w32tm_cmd.proofs.Controlling as controlling
-use Rattle.w32tm_cmd.proofs.Monitoring as monitoring
+use Rattle.w32tm_cmd.proofs.Showing as showing
+use Rattle.w32tm_cmd.proofs.Signing as signing
 use Rattle.w32tm_cmd.proofs.run.w32tm.Goals as goal
 
 -- words that spell a command are read
@@ -13,33 +11,10 @@ returns-in-Err-clause-bad_words g c =
     (λ is command spells. let wrong = c.in-Err.ensures.found command spells in cc wrong, λ nothing. refl)
 
 pub returns-in-Err-clause-sign : goal.returns-in-Err-clause-sign
-returns-in-Err-clause-sign g c account is_sign = is_read (Sign account) _ _ is_sign c.in-Err.ensures.found
-
-pub returns-in-Err-clause-sign_answers : goal.returns-in-Err-clause-sign_answers
-returns-in-Err-clause-sign_answers g c account is_sign = is_read (Sign account) _ _ is_sign c.in-Err.ensures.found
-
-pub returns-in-Err-clause-request : goal.returns-in-Err-clause-request
-returns-in-Err-clause-request g c account bytes is_sign told = is_read (Sign account) _ _ is_sign c.in-Err.ensures.found
-
-pub returns-in-Err-clause-complete : goal.returns-in-Err-clause-complete
-returns-in-Err-clause-complete g c account bytes is_sign told none accepted =
-    absurd (is_read (Sign account) _ _ is_sign c.in-Err.ensures.found)
-
-pub returns-in-Err-clause-complete_refused : goal.returns-in-Err-clause-complete_refused
-returns-in-Err-clause-complete_refused g c account bytes reason is_sign told none refused =
-    absurd (is_read (Sign account) _ _ is_sign c.in-Err.ensures.found)
+returns-in-Err-clause-sign g c account is_sign = absurd (is_read (Sign account) _ _ is_sign c.in-Err.ensures.found)
 
 pub returns-in-Err-clause-show : goal.returns-in-Err-clause-show
-returns-in-Err-clause-show g c bytes is_show = is_read (Show bytes) _ _ is_show c.in-Err.ensures.found
-
-pub returns-in-Err-clause-show_answers : goal.returns-in-Err-clause-show_answers
-returns-in-Err-clause-show_answers g c bytes is_show = is_read (Show bytes) _ _ is_show c.in-Err.ensures.found
-
-pub returns-in-Err-clause-show_bad_length : goal.returns-in-Err-clause-show_bad_length
-returns-in-Err-clause-show_bad_length g c bytes is_show = absurd (is_read (Show bytes) _ _ is_show c.in-Err.ensures.found)
-
-pub returns-in-Err-clause-show_complete : goal.returns-in-Err-clause-show_complete
-returns-in-Err-clause-show_complete g c bytes is_show none message = absurd (is_read (Show bytes) _ _ is_show c.in-Err.ensures.found)
+returns-in-Err-clause-show g c bytes is_show = absurd (is_read (Show bytes) _ _ is_show c.in-Err.ensures.found)
 
 pub returns-in-Err-clause-dc : goal.returns-in-Err-clause-dc
 returns-in-Err-clause-dc g c turns is_dc = absurd (is_read (Dc turns) _ _ is_dc c.in-Err.ensures.found)
@@ -70,21 +45,7 @@ pub returns-in-Sign-clause-sign : goal.returns-in-Sign-clause-sign
 returns-in-Sign-clause-sign g c account is_sign =
     let action = same_action (Sign account) _ c.in-Ok.command is_sign c.in-Ok.ensures.found in
     let same : c.in-Sign.account ≡ account = cc (action, c.in-Sign.is) in
-    rw same at c.sign_request.ensures.sign
-
-pub returns-in-Sign-clause-request : goal.returns-in-Sign-clause-request
-returns-in-Sign-clause-request g c account bytes is_sign told =
-    decides_by account bytes _ _ c.sign_request.result told (returns-in-Sign-clause-sign g c account is_sign)
-
-pub returns-in-Sign-clause-complete : goal.returns-in-Sign-clause-complete
-returns-in-Sign-clause-complete g c account bytes is_sign told none accepted =
-    let signs = returns-in-Sign-clause-sign g c account is_sign in
-    completes account bytes _ _ c.sign_request.result none accepted signs (decides_by account bytes _ _ c.sign_request.result told signs)
-
-pub returns-in-Sign-clause-complete_refused : goal.returns-in-Sign-clause-complete_refused
-returns-in-Sign-clause-complete_refused g c account bytes reason is_sign told none refused =
-    let signs = returns-in-Sign-clause-sign g c account is_sign in
-    completes_refused account bytes reason _ _ c.sign_request.result none refused signs (decides_by account bytes _ _ c.sign_request.result told signs)
+    signing.promises account _ _ c.sign_request.result (rw same at c.sign_request.ensures.sign)
 
 -- and `/show` for the bytes of the words
 pub returns-in-Show-clause-show : goal.returns-in-Show-clause-show
@@ -92,12 +53,7 @@ returns-in-Show-clause-show g c bytes is_show =
     let action = same_action (Show bytes) _ c.in-Ok.command is_show c.in-Ok.ensures.found in
     let slice = c.as_slice.ensures.bytes in
     let same : c.as_slice.result.now ≡ bytes = cc (action, c.in-Show.is, slice) in
-    rw same at c.show_message.ensures.show
-
-pub returns-in-Show-clause-show_bad_length : goal.returns-in-Show-clause-show_bad_length
-returns-in-Show-clause-show_bad_length g c bytes is_show =
-    let shows = returns-in-Show-clause-show g c bytes is_show in
-    (refused_length bytes _ _ c.show_message.result shows, length_refused bytes _ _ c.show_message.result shows)
+    showing.promises bytes _ _ c.show_message.result (rw same at c.show_message.ensures.show)
 
 -- `/member` for the turns of the words
 pub returns-in-Member-clause-member : goal.returns-in-Member-clause-member
@@ -112,10 +68,3 @@ returns-in-Dc-clause-dc g c turns is_dc =
     let action = same_action (Dc turns) _ c.in-Ok.command is_dc c.in-Ok.ensures.found in
     let same : c.in-Dc.turns ≡ turns = cc (action, c.in-Dc.is) in
     rw same at c.serve_requests.ensures.dc
-
--- whose count a read that failed raised
-pub returns-in-Dc-clause-read_fault : goal.returns-in-Dc-clause-read_fault
-returns-in-Dc-clause-read_fault g c is = inl (controlling.read_cause _ _ _ _ (c.serve_requests.ensures.dc).runs is)
-
-pub returns-in-Monitor-clause-read_fault : goal.returns-in-Monitor-clause-read_fault
-returns-in-Monitor-clause-read_fault g c is = inl (monitoring.read_cause _ _ _ (c.ask_computers.ensures.monitor).runs is)
