@@ -17,8 +17,8 @@ use sntp_core::Conf;
 
 /// A whole run of so many turns: its start, its turns, and the closing lines. It takes no memory.
 ///
-/// It ends as `Done` exactly where all turns were taken and the closing lines were written. Where a call of a device
-/// fails, no other call follows, but for a send or a receive, which is counted.
+/// It is `Done` exactly where all turns were taken and the closing lines written; a failed call is the last, but for a
+/// send or a receive. The order of one device's calls is in `lives`; over several devices it is tested, in `test_orders`.
 pub fn live<L: Link, C: Clock, D: Disk, E: Entropy, O: Sink>(
     conf: Conf,
     turns: u32,

@@ -176,7 +176,7 @@ IsToDo event (Act outcome behind) = IsBehind event behind
 IsToDo event _ = ⊥
 
 -- Where a record could not be written, what its event led to was not done. Where a line could not, it was, and nothing was
--- asked for behind it. The closing lines come when all turns were taken.
+-- asked for behind it but, in a round, a receipt. The closing lines come when all turns were taken.
 abbrev pub StopsAt : Ending → Need → Type 0
 StopsAt Whole need = ⊥
 StopsAt (NoRecord event front) need = IsToDo event need

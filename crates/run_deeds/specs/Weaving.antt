@@ -61,7 +61,7 @@ turn_requests conf history [] = []
 turn_requests conf history (event ∷ later) =
     map (λ (tick : Event). posted_by (outcome_at conf history tick)) (ticks_by event) ++ turn_requests conf (event ∷ history) later
 
--- of the link turn by turn the sends of its Tick, and behind them its receipt; the last turn may be without one
+-- of the link turn by turn the sends of its Tick, and behind them its receipt; by `Weaves` the last turn alone may have none
 abbrev pub turn_calls : List (List Tried) → List Receipt → List LinkCall
 turn_calls [] receipts = map Receive receipts
 turn_calls (tried ∷ later) [] = map Send tried ++ turn_calls later []

@@ -529,7 +529,35 @@ fn calls_of_a_run(rt: HostRuntime) -> Result<(), Fail> {
     Ok(())
 }
 
-// The replies to the first and to the second request, by a clock that is an hour and a second ahead, made as the one above.
+// A call whose line can't be written ends there: its request was sent, and nothing was received.
+#[test]
+fn a_call_whose_line_fails(rt: HostRuntime) -> Result<(), Fail> {
+    let receipts = call_receipts(rt.alloc())?;
+    let readings = call_readings(rt.alloc())?;
+    let mut objects = objects_of(rt.alloc(), receipts, readings, failure_of(Object::Out, 2))?;
+    let mut run = start(rt.alloc(), &mut objects)?;
+    let answer = run.resync(
+        1,
+        2,
+        &mut objects.link,
+        &mut objects.clock,
+        &mut objects.disk,
+        &mut objects.entropy,
+        &mut objects.out,
+        &mut objects.capture,
+    );
+    assert_eq!(rt;
+        (
+            matches!(answer, Err(Why::SinkFault)),
+            objects.link.sends().len(),
+            objects.link.calls().len()
+        ),
+        (true, 1, 1)
+    );
+    Ok(())
+}
+
+// The replies to the first and to the second request, by a clock that is an hour, and then a second ahead, made as the one above.
 const AN_HOUR: [u8; 68] = *b"\x1C\x01\x0A\xE9\0\0\0\0\0\0\0\0LOCL\xE1\xB6\x6D\x90\0\0\0\0\
 \0\0\0\x01\0\0\0\x01\xE1\xB6\x6D\x90\0\0\0\0\xE1\xB6\x6D\x90\0\x41\x89\x38\x4F\x04\0\0\
 \x83\xCB\x11\x0D\x9A\x3D\x7E\x07\xE3\x83\xB2\xC5\x06\xC5\x2A\xB4";

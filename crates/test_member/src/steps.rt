@@ -9,7 +9,7 @@ const PEER: Addr = Addr {
     port: 123,
 };
 
-// The replies to the first and to the second request, by a clock that is an hour and a second ahead. Their checksums are
+// The replies to the first and to the second request, by a clock that is an hour, and then a second ahead. Their checksums are
 // those of the key 00..0F and the 48 bytes of the header: `echo KEY HEADER | xxd -r -p | openssl md5`.
 const AN_HOUR: [u8; 68] = *b"\x1C\x01\x0A\xE9\0\0\0\0\0\0\0\0LOCL\xE1\xB6\x6D\x90\0\0\0\0\
 \0\0\0\x01\0\0\0\x01\xE1\xB6\x6D\x90\0\0\0\0\xE1\xB6\x6D\x90\0\x41\x89\x38\x4F\x04\0\0\

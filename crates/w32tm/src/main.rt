@@ -10,10 +10,11 @@
 //!
 //! `devices.rt` opens what a command names and uses, and nothing else, and `outside.rt` hands each device in under its
 //! name. What can't be opened is handed in as a device each call of which fails; where W32TM_EXPLAIN is 1, `explain.rt`
-//! says why. `streams.rt` has what main does before the run, for streams that are closed, and behind it: line and code. The devices are those of `edge_io`:
-//! files, standard input and output, a UDP socket, the machine's clock and its random words; the keeper's disk is the
-//! file of `slot_disk`. `input.rt` has the one type of all that is read, `output.rt` of all that is written, and `clock.rt`
-//! of the clock; the definitions of each stand in `specs/` under its name.
+//! says why. `streams.rt` takes the standard streams that are closed before the run, and has the line and the code after
+//! it. The devices are those of `edge_io`: files, standard input and output, a UDP socket, the machine's clock and its
+//! random words; the keeper's disk is the file of `slot_disk`. `input.rt` has the one type of all that is read,
+//! `output.rt` of all that is written, and `clock.rt` of the clock; the definitions of each stand in `specs/` under its
+//! name.
 #![tactic(auto)]
 
 mod clock;

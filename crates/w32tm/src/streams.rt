@@ -1,6 +1,6 @@
 //! The standard streams that are closed, and the line with which a run ends.
 ghost use Rattle.std.specs.Prelude.{◌≡◌, ◌≢◌};
-ghost use Rattle.edge_io.specs.Sink.{Writes};
+ghost use Rattle.edge_io.specs.Sink.{PutCounts, Writes};
 ghost use Rattle.w32tm_text.specs.Status.{code_of, line_of};
 
 use edge_io::Sink;
@@ -25,7 +25,8 @@ pub(crate) fn end_with<S: Sink>(errors: &mut S, status: &Status) -> u8
     ensures code { result ≡ code_of status.now }
     ensures done { status.now ≡ Status.Done → errors.new ≡ errors.old }
     ensures line { status.now ≢ Status.Done → (put : _)
-        × Writes put (line_of status.now) (S.written errors.old) (S.written errors.new) }
+        × Writes put (line_of status.now) (S.written errors.old) (S.written errors.new)
+        × PutCounts put (S.faults errors.old) (S.faults errors.new) }
 {
     let line = status_line(status);
     if !line.as_slice().is_empty() {

@@ -38,7 +38,7 @@ use w32tm_text::{Action, read_words};
 /// last one. `/replay` steps a member through the capture of `capture_in`, and writes its report. They take memory for
 /// the settings alone, `/member` and `/replay` for their partners too; where there is none no other device is touched.
 ///
-/// A failed call ends the command, and is the last that is made, but for a failed send or receive of the link.
+/// A failed call is the last, but for one of the link. In which order two devices are called is tested (`test_orders`).
 pub fn w32tm<S: Source, O: Sink, L: Link, C: Clock, D: Disk, E: Entropy>(
     alloc: Global,
     words: &Vec<String>,
