@@ -87,9 +87,15 @@ says() {
     is_near "$said" "$1" && is_near "$left" 0
 }
 
+# What the server answers from now on. It reads the file at any moment, so that is put in place whole.
+answer_by() {
+    echo "$1" >"$folder/ahead.new"
+    mv -f "$folder/ahead.new" "$folder/ahead"
+}
+
 # The server is ahead by so many seconds from now on, and chronyd has to come to that.
 settle() {
-    echo "$1" >"$folder/ahead"
+    answer_by "$1"
     if wait_until 120 says "$1"; then
         echo "the server is $1 s ahead: chronyd says $said s, and $left s more by its samples"
     else
@@ -101,7 +107,7 @@ settle() {
 refused() {
     local before after told
     told=$(reports "refused reason=$2")
-    echo "$1" >"$folder/ahead"
+    answer_by "$1"
     has_refused() { [ "$(reports "refused reason=$1")" -ge "$2" ]; }
     wait_until 20 has_refused "$2" $((told + 1)) || fail "no reply was refused by $2"
     before="$(samples) $(behind)"
@@ -115,7 +121,7 @@ refused() {
 }
 
 echo "== $(chronyd -v | cut -d ' ' -f 1-4), a server ahead of this machine"
-echo 0.125 >"$folder/ahead"
+answer_by 0.125
 start_chain 2 3
 start_member $key 0
 settle 0.125
@@ -126,7 +132,7 @@ stop $member
 stop_chain
 
 echo "== a member with another key"
-echo 0.125 >"$folder/ahead"
+answer_by 0.125
 start_chain 2 3
 start_member "ff${key:2}" 0
 refuses_often() { [ "$(reports 'refused reason=BadDigest')" -ge 5 ]; }
