@@ -6,7 +6,8 @@
 # chronyd has to say 0.125 s and then 3 s, within a millisecond. A forged reply and one past MaxPosPhaseCorrection may
 # change nothing in chronyd, and under another key the source has to stay unreachable.
 # Usage: examples/peers/set_clock.sh. SET_CLOCK_MINUTES in the environment adds a longer run, asked each 16 s, which may
-# show no drift between chronyd's estimate and the server's offset.
+# show no drift between chronyd's estimate and the server's offset: in its second half these differ by a millisecond at most,
+# by the median.
 # Needs python3. Skipped without Debian's chrony and socat.
 . "$(dirname "$0")/../prologue.sh"
 for tool in python3 chronyd chronyc socat; do command -v $tool >/dev/null || skip "no $tool"; done
@@ -152,13 +153,17 @@ if [ -n "${SET_CLOCK_MINUTES:-}" ]; then
     start_chain 6 3
     start_member $key 4
     wait_until 300 says 0.125 || fail "chronyd says $(behind) after five minutes"
+    # A reply that is held up on a busy machine moves some minutes, and a drift all later ones: so the median is judged.
+    all=()
     for _ in $(seq "$SET_CLOCK_MINUTES"); do
         sleep 60
         said=$(behind)
-        is_near "$said" 0.125 || fail "chronyd says $said"
+        all+=("$said")
         python3 -c 'import sys; print(round((float(sys.argv[1]) - 0.125) * 1e6), end=" ", flush=True)' "$said"
     done
     echo
+    said=$(printf '%s\n' "${all[@]:$((${#all[@]} / 2))}" | sort -g | awk '{ a[NR] = $1 } END { print a[int((NR + 1) / 2)] }')
+    is_near "$said" 0.125 || fail "in the second half chronyd says $said s in the middle"
     echo "$(reports moved) replies were accepted, and chronyd has $(samples) samples; $(ask sourcestats)"
     kill -0 $member || fail "the member ended"
     stop $member
