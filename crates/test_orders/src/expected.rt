@@ -74,15 +74,12 @@ fn expect_fault(
         ..run.script
     };
     let ran = ordered(alloc, &Run { script, ..*run })?;
-    let front = ran.letters.get(..=place);
-    let is_last = ran.letters.len() == place + 1;
+    let end = place.saturating_add(1);
+    let front = ran.letters.get(..end);
+    let is_last = ran.letters.len() == end;
     assert_eq!(rt;
         (ran.status, front, is_last),
-        (
-            status_of(device),
-            word.get(..=place),
-            device != Device::Link
-        ),
+        (status_of(device), word.get(..end), device != Device::Link),
         "call {place}"
     );
     Ok(())

@@ -6,7 +6,7 @@ use std::test::Fail;
 use test_scripts::{Came, Device, INTERVAL, NEW_YEAR, SETTINGS, STEADY, Script, THIRD};
 
 /// How many turns the run takes: its 65th request is that of turn 67.
-const TURNS: i64 = 68;
+const TURNS: u32 = 68;
 
 const PEER: Addr = Addr {
     ip: 0x0A00_0002,
@@ -61,7 +61,7 @@ fn readings_of(alloc: Global) -> Result<Vec<i64>, AllocError> {
     let mut readings = Vec::new(alloc);
     readings.push(NEW_YEAR)?;
     for turn in 0..TURNS {
-        let now = NEW_YEAR + turn * INTERVAL;
+        let now = NEW_YEAR + i64::from(turn) * INTERVAL;
         readings.push(now)?;
         if turn == 1 || turn == 2 || turn == 4 || turn == 5 {
             readings.push(now + 2_010_000)?;
