@@ -160,6 +160,13 @@ explains() {
 missing="No such file or directory (os error 2)"
 explains "w32tm: $folder/missing: $missing"$'\n' "w32tm: read fault" /monitor "/config:$folder/missing"
 explains "w32tm: $folder/missing/keeper: $missing"$'\n' "w32tm: disk fault" $alone "/keeper:$folder/missing/keeper"
+explains "w32tm: $folder/settings: longer than 256 bytes"$'\n' "w32tm: disk fault" $alone "/keeper:$folder/settings"
+explains $'w32tm: /dev/null: not a regular file\n' "w32tm: disk fault" $alone /keeper:/dev/null
+# A keeper that another member holds: the lock is held by a shell for as long as the case takes.
+exec {held}>>"$folder/keeper"
+flock -n "$held" || die "the keeper is locked already"
+explains "w32tm: $folder/keeper: locked by another process"$'\n' "w32tm: disk fault" $alone "$keeper"
+exec {held}>&-
 "$program" /dc:3 "$config" "/port:$port" >"$folder/first" &
 wait_for_port $port
 explains "w32tm: port $port: Address already in use (os error 98)"$'\n' "" /dc:1 "$config" "/port:$port"

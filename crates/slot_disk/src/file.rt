@@ -1,11 +1,12 @@
 //! A disk in a file of the machine.
-ghost use Rattle.std.specs.Prelude.{◌≡◌, ◌↔◌, ◌+◌, ◌≤◌, IsOk, IsTrue, length, false};
+ghost use Rattle.std.specs.Prelude.{◌≡◌, ◌↔◌, ◌+◌, ◌<◌, ◌≤◌, Err, IfOk, IsOk, length, false, true};
 ghost use Rattle.std.specs.Fs.{file_type, metadata_len, IsFile};
 ghost use Rattle.edge_traits.specs.Sink.{PutCounts};
 ghost use Rattle.slot_disk.specs.Calls.{Ticks};
 ghost use Rattle.slot_disk.specs.File.{calls_of, file_faults, is_open};
+ghost use Rattle.slot_disk.specs.declared.no_disk.NoDisk.{NoDisk};
 
-use crate::{DISK_LEN, Disk, Put};
+use crate::{DISK_LEN, Disk, NoDisk, Put};
 use std::fs::{File, Files, Metadata, OpenOptions};
 use std::io;
 use std::os::unix::fs::FileExt;
@@ -25,17 +26,18 @@ pub struct FileDisk {
 impl FileDisk {
     /// Opens a file for reading and writing, creates it where it is missing, and locks it. A shorter file is filled
     /// with zero bytes to 256. A new or short file's folder is synced before it is filled, so it must be readable.
-    /// A longer file, or what is no regular file, is left as it is. There, where another disk has the file, and where
-    /// one of these can't be done, the disk is one without a file.
-    pub fn open<R: Files<File = File>>(files: &R, path: &str) -> FileDisk
-        ensures calls { calls_of result ≡ 0 }
-        ensures faults { file_faults result ≡ 0 }
+    /// A longer file, or what is no regular file, is left as it is. The error says which of these there is, that
+    /// another disk has the file, or what the system refused.
+    pub fn open<R: Files<File = File>>(files: &R, path: &str) -> Result<FileDisk, NoDisk>
+        ensures calls { IfOk result (λ disk. calls_of disk ≡ 0) }
+        ensures faults { IfOk result (λ disk. file_faults disk ≡ 0) }
+        ensures opened { IfOk result (λ disk. is_open disk ≡ true) }
     {
-        FileDisk {
-            file: open_filled(files, path).ok(),
+        Ok(FileDisk {
+            file: Some(open_filled(files, path)?),
             calls: 0,
             faults: 0,
-        }
+        })
     }
 
     /// A disk without a file, of which every call fails.
@@ -74,16 +76,26 @@ fn no_file() -> io::Error {
     io::Error::from(io::ErrorKind::NotFound)
 }
 
-/// Whether what was opened may become a disk: a regular file that isn't longer than one.
-fn may_hold_disk(metadata: &Metadata) -> bool
-    ensures { IsTrue result
+/// Whether what was opened may become a disk: a regular file that isn't longer than one. The error is
+/// [`NoDisk::NotRegular`] or [`NoDisk::TooLong`].
+fn may_hold_disk(metadata: &Metadata) -> Result<(), NoDisk>
+    ensures fits { IsOk result
         ↔ (IsFile (file_type metadata.now) × (metadata_len metadata.now ≤ 256)) }
+    ensures not_regular { (result ≡ Err NoDisk.NotRegular) ↔ (IsFile (file_type metadata.now) → ⊥) }
+    ensures too_long { (result ≡ Err NoDisk.TooLong)
+        ↔ (IsFile (file_type metadata.now) × (256 < metadata_len metadata.now)) }
 {
-    metadata.is_file() && metadata.len() <= DISK_LEN as u64
+    if !metadata.is_file() {
+        return Err(NoDisk::NotRegular);
+    }
+    if metadata.len() > DISK_LEN as u64 {
+        return Err(NoDisk::TooLong);
+    }
+    Ok(())
 }
 
 /// The open file, locked, of 256 bytes.
-fn open_filled<R: Files<File = File>>(files: &R, path: &str) -> io::Result<File> {
+fn open_filled<R: Files<File = File>>(files: &R, path: &str) -> Result<File, NoDisk> {
     let file = OpenOptions::new()
         .read(true)
         .write(true)
@@ -92,9 +104,7 @@ fn open_filled<R: Files<File = File>>(files: &R, path: &str) -> io::Result<File>
     // The lock goes when the file is closed.
     file.try_lock()?;
     let metadata = file.metadata()?;
-    if !may_hold_disk(&metadata) {
-        return Err(io::Error::from(io::ErrorKind::InvalidInput));
-    }
+    may_hold_disk(&metadata)?;
     if metadata.len() < DISK_LEN as u64 {
         // The name of a new file has to outlast a crash before anything is written.
         File::open(files, folder_of(path))?.sync_all()?;

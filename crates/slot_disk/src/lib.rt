@@ -9,9 +9,10 @@
 //! calls, as a machine that is switched off. Both say which of their calls fail, and that a write within the room,
 //! done or failed, tears as freely as the model allows. [`FileDisk`] is a file of 256 bytes and tells neither content
 //! nor images; what the device keeps is trusted. A longer file and what is no regular file are no disk: they are left
-//! as they are, and each call fails, as where another disk has the file.
+//! as they are. [`NoDisk`] says why a path gives none, and that another disk has the file. Each call of a disk without
+//! a file fails.
 //!
-//! It stands on `edge_traits` for the answer of a call and on `base_specs` for counts. The model is
+//! It stands on `edge_traits` for the answer of a call, on `base_specs` for counts and on `thiserror`. The model is
 //! `specs/Told.antt` and `specs/Calls.antt`; `specs/Moments.antt` and `specs/Memory.antt` are the disk in memory,
 //! `specs/Fuse.antt` and `specs/File.antt` the other two.
 #![tactic(auto)]
@@ -21,6 +22,7 @@ mod file;
 mod fuse;
 mod memory;
 mod moment;
+mod no_disk;
 mod ranges;
 #[cfg(test)]
 mod tests;
@@ -30,6 +32,7 @@ pub use edge_traits::Put;
 pub use file::FileDisk;
 pub use fuse::FuseDisk;
 pub use memory::MemoryDisk;
+pub use no_disk::NoDisk;
 
 /// Bytes on a disk.
 pub const DISK_LEN: usize = 256;

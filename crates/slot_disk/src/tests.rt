@@ -99,6 +99,22 @@ fn stops_when_the_fuse_has_blown(rt: HostRuntime) -> Result<(), Fail> {
     Ok(())
 }
 
+/// The disk in a file, or one without a file.
+fn disk_at(rt: &HostRuntime, path: &str) -> FileDisk {
+    match FileDisk::open(rt, path) {
+        Ok(disk) => disk,
+        Err(_) => FileDisk::without_file(),
+    }
+}
+
+/// Why a path gives no disk, or nothing where it gives one.
+fn reason_at(rt: &HostRuntime, path: &str) -> Result<String, Fail> {
+    match FileDisk::open(rt, path) {
+        Ok(_) => Ok(String::new(rt.alloc())),
+        Err(reason) => Ok(format!(in rt.alloc(); "{reason}")?),
+    }
+}
+
 /// Writes four pieces, and syncs.
 fn write_pieces(disk: &mut FileDisk) -> [Put; 5] {
     [
@@ -112,9 +128,9 @@ fn write_pieces(disk: &mut FileDisk) -> [Put; 5] {
 
 /// Writes four pieces by way of a disk, and gives what a later disk reads.
 fn written(rt: &HostRuntime) -> ([u8; 256], [Put; 5], Put) {
-    let puts = write_pieces(&mut FileDisk::open(rt, PATH));
+    let puts = write_pieces(&mut disk_at(rt, PATH));
     let mut image = [9; 256];
-    let read = FileDisk::open(rt, PATH).read(&mut image);
+    let read = disk_at(rt, PATH).read(&mut image);
     (image, puts, read)
 }
 
@@ -177,9 +193,11 @@ fn a_longer_file_is_left_as_it_is(rt: HostRuntime) -> Result<(), Fail> {
     for len in [257, 300] {
         let content = &[3u8; 300][..len];
         fs::write(&rt, "slot_disk_long/disk", content)?;
-        let puts = three_calls(FileDisk::open(&rt, "slot_disk_long/disk"));
+        let puts = three_calls(disk_at(&rt, "slot_disk_long/disk"));
         let bytes = fs::read(&rt, "slot_disk_long/disk")?;
         assert_eq!(rt; (puts, bytes.as_slice()), ([Put::Failed; 3], content));
+        let reason = reason_at(&rt, "slot_disk_long/disk")?;
+        assert_eq!(rt; reason.as_str(), "longer than 256 bytes");
     }
     fs::remove_dir_all(&rt, "slot_disk_long")?;
     Ok(())
@@ -189,27 +207,30 @@ fn a_longer_file_is_left_as_it_is(rt: HostRuntime) -> Result<(), Fail> {
 fn a_file_has_one_disk_at_a_time(rt: HostRuntime) -> Result<(), Fail> {
     let _ = fs::remove_dir_all(&rt, "slot_disk_lock");
     fs::create_dir(&rt, "slot_disk_lock")?;
-    let first = FileDisk::open(&rt, "slot_disk_lock/disk");
-    let second = three_calls(FileDisk::open(&rt, "slot_disk_lock/disk"));
+    let first = disk_at(&rt, "slot_disk_lock/disk");
+    let second = three_calls(disk_at(&rt, "slot_disk_lock/disk"));
+    let reason = reason_at(&rt, "slot_disk_lock/disk")?;
+    assert_eq!(rt; reason.as_str(), "locked by another process");
     let puts = (second, three_calls(first));
     assert_eq!(rt; puts, ([Put::Failed; 3], [Put::Done; 3]));
-    let later = three_calls(FileDisk::open(&rt, "slot_disk_lock/disk"));
+    let later = three_calls(disk_at(&rt, "slot_disk_lock/disk"));
     assert_eq!(rt; later, [Put::Done; 3]);
     fs::remove_dir_all(&rt, "slot_disk_lock")?;
     Ok(())
 }
 
 #[test]
-fn what_is_no_file_is_no_disk(rt: HostRuntime) {
+fn what_is_no_file_is_no_disk(rt: HostRuntime) -> Result<(), Fail> {
     // A folder can't be opened for writing, and the other is no regular file.
-    for path in ["/", "/dev/null"] {
-        assert_eq!(rt;
-            three_calls(FileDisk::open(&rt, path)),
-            [Put::Failed; 3],
-            "{path}"
-        );
+    for (path, want) in [
+        ("/", "Is a directory (os error 21)"),
+        ("/dev/null", "not a regular file"),
+    ] {
+        assert_eq!(rt; three_calls(disk_at(&rt, path)), [Put::Failed; 3], "{path}");
+        assert_eq!(rt; reason_at(&rt, path)?.as_str(), want, "{path}");
     }
     assert_eq!(rt; three_calls(FileDisk::without_file()), [Put::Failed; 3]);
+    Ok(())
 }
 
 #[test]
@@ -218,7 +239,7 @@ fn a_short_file_is_filled(rt: HostRuntime) -> Result<(), Fail> {
     fs::create_dir(&rt, "slot_disk_short")?;
     fs::write(&rt, "slot_disk_short/disk", &[3u8; 5])?;
     // It can be read whole before anything was written to it.
-    let mut disk = FileDisk::open(&rt, "slot_disk_short/disk");
+    let mut disk = disk_at(&rt, "slot_disk_short/disk");
     assert_eq!(rt; make(&mut disk, Call::Read), Put::Done);
     let bytes = fs::read(&rt, "slot_disk_short/disk")?;
     let ends = (bytes.len(), bytes.get(4), bytes.get(5), bytes.last());

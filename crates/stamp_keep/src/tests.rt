@@ -168,7 +168,9 @@ fn marks_in_a_file(rt: HostRuntime) -> Result<(), Fail> {
     let _ = fs::remove_dir_all(&rt, FOLDER);
     fs::create_dir(&rt, FOLDER)?;
     for reserves in [3, 0] {
-        let mut disk = FileDisk::open(&rt, PATH);
+        let Ok(mut disk) = FileDisk::open(&rt, PATH) else {
+            return Err(Fail::from("no disk"));
+        };
         assert_eq!(rt; live(&mut disk, reserves), Ok(192), "{reserves}");
     }
     let slots = [(0, 1, 64), open(128), open(192)];

@@ -92,7 +92,10 @@ pub(crate) fn disk_of<R: Files<File = File>>(
     ensures unnamed { place ≡ None → is_open result ≡ false }
 {
     match path_in(words, place, "/keeper:") {
-        Some(path) => FileDisk::open(files, path),
+        Some(path) => match FileDisk::open(files, path) {
+            Ok(disk) => disk,
+            Err(_) => FileDisk::without_file(),
+        },
         None => FileDisk::without_file(),
     }
 }

@@ -1,9 +1,10 @@
-//! Why something that a command names can't be opened, in the system's words, where the environment asks for it.
+//! Why something that a command names can't be opened, where the environment asks for it.
 
 use crate::devices::{capture_read, capture_recorded, path_in, port_by};
 use edge_io::UdpLink;
+use slot_disk::FileDisk;
 use std::alloc::{AllocError, Global};
-use std::fs::OpenOptions;
+use std::fs::{File, OpenOptions};
 use std::net::Net;
 use std::rt::{Env, Files};
 use w32tm_cmd::Status;
@@ -18,12 +19,13 @@ pub(crate) fn is_asked<R: Env>(environment: &R) -> bool {
     matches!(environment.var(VARIABLE, &mut value), Ok(1)) && value[0] == b'1'
 }
 
-/// A line for each thing that the command names and that can't be opened: its path or port, and the system's reason.
+/// A line for each thing that the command names and that can't be opened: its path or port, and the reason, in the
+/// words of the system or of the keeper's disk.
 ///
 /// Each is opened once more, as the run opened it. So the run must have closed its own, and what can be opened by now
 /// has no line. A capture that is recorded is tried only where a write failed, since the first write opens it, and the
 /// samples of a clock only where a reading failed.
-pub(crate) fn explanation<R: Files + Net>(
+pub(crate) fn explanation<R: Files<File = File> + Net>(
     rt: &R,
     alloc: Global,
     words: &Vec<String>,
@@ -32,27 +34,7 @@ pub(crate) fn explanation<R: Files + Net>(
 ) -> Result<String, AllocError> {
     let mut text = String::new(alloc);
     if let Some(command) = command {
-        let config = path_in(words, command.config, "/config:");
-        add_file(&mut text, rt, config, OpenOptions::new().read(true))?;
-        let capture = path_in(words, capture_read(command), "/capture:");
-        add_file(&mut text, rt, capture, OpenOptions::new().read(true))?;
-        let keeper = path_in(words, command.keeper, "/keeper:");
-        let mut kept = OpenOptions::new();
-        kept.read(true).write(true).create(true);
-        add_file(&mut text, rt, keeper, &kept)?;
-        if *status == Status::ClockFault {
-            let samples = path_in(words, command.clock, "/clock:");
-            add_file(
-                &mut text,
-                rt,
-                samples,
-                OpenOptions::new().read(true).write(true),
-            )?;
-        }
-        if *status == Status::WriteFault {
-            let record = path_in(words, capture_recorded(command), "/capture:");
-            add_file(&mut text, rt, record, OpenOptions::new().write(true))?;
-        }
+        add_files(&mut text, rt, words, command, status)?;
     }
     if let Some(port) = port_by(command)
         && let Err(reason) = UdpLink::bind(rt, port)
@@ -60,6 +42,35 @@ pub(crate) fn explanation<R: Files + Net>(
         writeln!(text, "w32tm: port {port}: {reason}")?;
     }
     Ok(text)
+}
+
+/// Adds the lines of the command's files.
+fn add_files<R: Files<File = File>>(
+    text: &mut String,
+    files: &R,
+    words: &Vec<String>,
+    command: &Command,
+    status: &Status,
+) -> Result<(), AllocError> {
+    let config = path_in(words, command.config, "/config:");
+    add_file(text, files, config, OpenOptions::new().read(true))?;
+    let capture = path_in(words, capture_read(command), "/capture:");
+    add_file(text, files, capture, OpenOptions::new().read(true))?;
+    if let Some(path) = path_in(words, command.keeper, "/keeper:")
+        && let Err(reason) = FileDisk::open(files, path)
+    {
+        writeln!(text, "w32tm: {path}: {reason}")?;
+    }
+    if *status == Status::ClockFault {
+        let samples = path_in(words, command.clock, "/clock:");
+        let mut how = OpenOptions::new();
+        add_file(text, files, samples, how.read(true).write(true))?;
+    }
+    if *status == Status::WriteFault {
+        let record = path_in(words, capture_recorded(command), "/capture:");
+        add_file(text, files, record, OpenOptions::new().write(true))?;
+    }
+    Ok(())
 }
 
 /// Adds the line of a file that can't be opened in this way.
@@ -111,7 +122,8 @@ mod tests {
                 "/clock:/no/s",
             ],
             Status::ClockFault,
-            "w32tm: /no/s: No such file or directory (os error 2)\n",
+            "w32tm: /dev/null: not a regular file\n\
+             w32tm: /no/s: No such file or directory (os error 2)\n",
         ),
         (
             &[
@@ -121,7 +133,8 @@ mod tests {
                 "/capture:/no/e",
             ],
             Status::WriteFault,
-            "w32tm: /no/e: No such file or directory (os error 2)\n",
+            "w32tm: /dev/null: not a regular file\n\
+             w32tm: /no/e: No such file or directory (os error 2)\n",
         ),
     ];
 
