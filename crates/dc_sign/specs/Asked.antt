@@ -1,9 +1,9 @@
 -- The key that a request asks for, and the tail of its reply.
-use Rattle.std.specs.Prelude.{◌==◌, ◌%◌, ◌^◌, nat_le, ℕ, List, length, if◌then◌else◌, Option, Some, None}
+use Rattle.std.specs.Prelude.{◌==◌, ◌%◌, ℕ, List, length, if◌then◌else◌, Option, Some, None}
 use Rattle.ms_auth.specs.declared.packet.Kind.TheVariants.{Short, Extended}
 use Rattle.ms_auth.specs.declared.packet.Tail.{Tail}
 use Rattle.ms_auth.specs.declared.packet.Tail.TheVariants.{Plain, Short68, Ext120}
-use Rattle.ms_auth.specs.Fields.{rid_at, old_at}
+use Rattle.ms_auth.specs.Fields.{asks_previous_in, old_at, rid_at, short_rid_in}
 use Rattle.dc_sign.specs.declared.keys.Asked.{Asked}
 
 -- by the request's bytes: none where it is a header alone, or no message
@@ -16,7 +16,7 @@ asked_at bytes =
 -- the same by the tail that was read
 abbrev pub asked_in : Tail → Option Asked
 asked_in Plain = None
-asked_in (Short68 key_id sum) = Some (record { rid = key_id % 2 ^ 31; old = nat_le (2 ^ 31) key_id })
+asked_in (Short68 key_id sum) = Some (record { rid = short_rid_in key_id; old = asks_previous_in key_id })
 asked_in (Ext120 rid reserved flags hints hash sum) = Some (record { rid = rid; old = flags % 2 == 1 })
 
 -- the tail of a reply to a request with this tail, before its checksum is set

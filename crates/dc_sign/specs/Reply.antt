@@ -30,8 +30,8 @@ abbrev pub is_bad_version : ℕ → Bool
 is_bad_version version = nat_lt version 1 || nat_lt 4 version
 
 -- the mode is neither 1 nor 3
-abbrev pub is_bad_mode : ℕ → Bool
-is_bad_mode mode = not (mode == 1) && not (mode == 3)
+abbrev pub is_bad_request_mode : ℕ → Bool
+is_bad_request_mode mode = not (mode == 1) && not (mode == 3)
 
 -- a key is asked for, and no account has the RID
 abbrev pub is_unknown : List Account → Option Asked → Bool
@@ -47,7 +47,7 @@ lacks_key accounts (Some asked) = is_none (key_of accounts asked.rid asked.old)
 abbrev pub first_refusal : List Account → ℕ → ℕ → Option Asked → Option Refusal
 first_refusal accounts version mode asked =
     if is_bad_version version then Some BadVersion
-    else if is_bad_mode mode then Some BadMode
+    else if is_bad_request_mode mode then Some BadMode
     else if is_unknown accounts asked then Some UnknownAccount
     else if lacks_key accounts asked then Some NoOldKey
     else None

@@ -2,11 +2,11 @@
 ghost use Rattle.std.specs.Prelude.{◌≡◌};
 ghost use Rattle.dc_sign.specs.Asked.{asked_in};
 ghost use Rattle.dc_sign.specs.Asking.{Decides};
-ghost use Rattle.dc_sign.specs.Reply.{is_bad_mode, is_bad_version};
+ghost use Rattle.dc_sign.specs.Reply.{is_bad_request_mode, is_bad_version};
 
 use crate::Refusal;
 use key_book::Keys;
-use ms_auth::{Packet, Tail};
+use ms_auth::{Packet, Tail, asks_for_previous, short_rid};
 use ntp_wire::Header;
 
 /// The key that a request names.
@@ -49,8 +49,8 @@ fn asked_of(tail: Tail) -> Option<Asked>
     match tail {
         Tail::Plain => None,
         Tail::Short68 { key_id, .. } => Some(Asked {
-            rid: key_id % (1 << 31),
-            old: key_id >= 1 << 31,
+            rid: short_rid(key_id),
+            old: asks_for_previous(key_id),
         }),
         Tail::Ext120 { rid, flags, .. } => Some(Asked {
             rid,
@@ -68,7 +68,7 @@ fn has_bad_version(header: &Header) -> bool
 
 /// Whether the mode is neither that of a client nor symmetric active.
 fn has_bad_mode(header: &Header) -> bool
-    ensures { result ≡ is_bad_mode header.now.mode }
+    ensures { result ≡ is_bad_request_mode header.now.mode }
 {
     header.mode != 1 && header.mode != 3
 }

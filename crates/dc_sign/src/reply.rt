@@ -9,14 +9,8 @@ ghost use Rattle.dc_sign.specs.Reply.{Answers, IsReplyHeader, IsReplyOf};
 use crate::keys::key_for;
 use crate::{Answer, Refusal, ServerInfo};
 use key_book::Keys;
-use ms_auth::{Packet, Tail, read_packet, sign, write_packet};
+use ms_auth::{HASH_HINTS, Packet, SIGNATURE_HASH, Tail, read_packet, sign, write_packet};
 use ntp_wire::{Header, to_ntp};
-
-/// ClientHashIDHints of an extended reply: the one digest of this profile is known.
-const HASH_HINTS: u8 = 1;
-
-/// SignatureHashID of an extended reply: the one digest of this profile.
-const SIGNATURE_HASH: u8 = 1;
 
 /// Answers a request that came at the reading `t2` by a reply that is sent at the reading `t3`, both in ticks of
 /// 100 ns since 1601.

@@ -12,8 +12,8 @@
 //!
 //! The files, in the order of a run: `life.rt` (the whole), `running.rt` (its start and a turn), `reserving.rt` (counts),
 //! `devices.rt` (readings, words, records and lines), `taking.rt` (an event), `closing.rt` (the last lines), and
-//! `rounds.rt` (`resync`). The other definitions in `specs/` belong to the private part. Its tests are runs, in
-//! `test_lives`.
+//! `rounds.rt` (`resync`). All but `devices.rt` and `closing.rt` have an `impl Running`. The other definitions in `specs/`
+//! belong to the private part. Its tests are runs, in `test_lives`.
 #![tactic(auto)]
 
 mod closing;

@@ -14,13 +14,20 @@ use Rattle.ms_auth.specs.Digest.{digest_of, sum_of}
 abbrev pub key_id_of : List ℕ → ℕ
 key_id_of bytes = low_word_at 48 bytes
 
--- the RID of a short message: the low 31 bits
-abbrev pub short_rid_of : List ℕ → ℕ
-short_rid_of bytes = key_id_of bytes % 2 ^ 31
+-- the RID in the key identifier of a short message: the low 31 bits
+abbrev pub short_rid_in : ℕ → ℕ
+short_rid_in key_id = key_id % 2 ^ 31
 
--- whether a short message asks for the previous key: bit 31
+-- whether it asks for the previous key: bit 31
+abbrev pub asks_previous_in : ℕ → Bool
+asks_previous_in key_id = nat_le (2 ^ 31) key_id
+
+-- both of a short message by its bytes
+abbrev pub short_rid_of : List ℕ → ℕ
+short_rid_of bytes = short_rid_in (key_id_of bytes)
+
 abbrev pub asks_for_previous : List ℕ → Bool
-asks_for_previous bytes = nat_le (2 ^ 31) (key_id_of bytes)
+asks_for_previous bytes = asks_previous_in (key_id_of bytes)
 
 -- the checksum of a short message
 abbrev pub short_sum_of : List ℕ → List ℕ

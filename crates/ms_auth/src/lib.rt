@@ -13,6 +13,7 @@
 #![tactic(auto)]
 
 mod codec;
+mod key_id;
 mod packet;
 mod requests;
 mod signing;
@@ -20,6 +21,9 @@ mod signing;
 mod tests;
 
 pub use codec::{read_packet, write_packet};
-pub use packet::{BadLength, EXTENDED_LEN, Kind, Packet, SHORT_LEN, Tail};
+pub use key_id::{asks_for_previous, short_rid};
+pub use packet::{
+    BadLength, EXTENDED_LEN, HASH_HINTS, Kind, Packet, SHORT_LEN, SIGNATURE_HASH, Tail,
+};
 pub use requests::request;
 pub use signing::{check, sign};

@@ -7,6 +7,12 @@ pub const SHORT_LEN: usize = 68;
 /// Bytes in an extended message.
 pub const EXTENDED_LEN: usize = 120;
 
+/// ClientHashIDHints of a sender that knows the one digest of this profile: bit 0.
+pub const HASH_HINTS: u8 = 1;
+
+/// SignatureHashID of that digest.
+pub const SIGNATURE_HASH: u8 = 1;
+
 /// Which checksum a request asks for.
 #[derive(Clone, Copy, Debug, PartialEq, Eq)]
 pub enum Kind {

@@ -5,14 +5,11 @@ ghost use Rattle.ms_auth.specs.declared.packet.Packet.{Packet};
 ghost use Rattle.ms_auth.specs.Packet.{SpellsPacket};
 ghost use Rattle.ms_auth.specs.Request.{IsRequest, IsRequestHeader, request_bytes};
 
-use crate::{Kind, Packet, Tail};
+use crate::{HASH_HINTS, Kind, Packet, Tail};
 use ntp_wire::{Header, Stamp};
 
 /// The precision of a clock in ticks of 100 ns, as a power of 2 in seconds.
 const PRECISION: i8 = -23;
-
-/// ClientHashIDHints of a request: the one digest of this profile is known.
-const HASH_HINTS: u8 = 1;
 
 /// The timestamp that says nothing.
 const NO_STAMP: Stamp = Stamp {

@@ -1,6 +1,6 @@
 -- The verdict on a message that was read from an arrival's bytes. It is the verdict on the bytes: no contract that
 -- callers see cites it.
-use Rattle.std.specs.Prelude.{ℕ, ◌%◌, ◌^◌, Bool, true, false, not, ◌||◌, ◌==◌, List, find, Option, Some, None, ℤ, if◌then◌else◌}
+use Rattle.std.specs.Prelude.{ℕ, Bool, true, false, not, ◌||◌, ◌==◌, List, find, Option, Some, None, ℤ, if◌then◌else◌}
 use Rattle.std.specs.Option.{option_map_or}
 use Rattle.std.specs.Str.{bytes_eq}
 use Rattle.edge_traits.specs.declared.datagram.Addr.{Addr}
@@ -11,6 +11,7 @@ use Rattle.ms_auth.specs.declared.packet.Packet.{Packet}
 use Rattle.ms_auth.specs.declared.packet.Tail.{Tail}
 use Rattle.ms_auth.specs.declared.packet.Tail.TheVariants.{Plain, Short68, Ext120}
 use Rattle.ms_auth.specs.Digest.{digest_of, sum_of}
+use Rattle.ms_auth.specs.Fields.{short_rid_in}
 use Rattle.key_book.specs.declared.account.Account.{Account}
 use Rattle.time_machine.specs.declared.outcome.Request.{Request}
 use Rattle.time_machine.specs.declared.outcome.Reason.TheVariants.{BadLength, BadSource, BadMode, BadStratum, NoRequest, BadKeyId, BadDigest}
@@ -30,7 +31,7 @@ is_tail_of Extended other = false
 -- the tail names another account, or another digest
 abbrev pub names_another : ℕ → Tail → Bool
 names_another rid Plain = true
-names_another rid (Short68 key_id sum) = not (key_id % 2 ^ 31 == rid)
+names_another rid (Short68 key_id sum) = not (short_rid_in key_id == rid)
 names_another rid (Ext120 other reserved flags hints hash sum) = not (other == rid) || not (hash == 1)
 
 -- both checksums are there, and they are the same

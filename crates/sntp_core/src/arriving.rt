@@ -11,7 +11,7 @@ ghost use Rattle.sntp_core.specs.Ranges.{IsBase};
 use crate::Member;
 use edge_traits::Addr;
 use key_book::Account;
-use ms_auth::{Kind, Packet, Tail, check, read_packet};
+use ms_auth::{Kind, Packet, SIGNATURE_HASH, Tail, check, read_packet, short_rid};
 use ntp_wire::{Header, Stamp, to_ticks};
 use phase_rule::{Judged, judge, next_poll};
 use time_machine::{
@@ -21,9 +21,6 @@ use time_machine::{
 
 /// How long a request can be answered, in ticks: ten seconds.
 const WINDOW: i64 = 100_000_000;
-
-/// The digest of this profile, as an extended reply names it.
-const HASH: u8 = 1;
 
 impl Member {
     ghost use Rattle.time_machine.specs.Told.{IsRefused};
@@ -207,12 +204,12 @@ fn names_another(rid: u32, tail: &Tail) -> bool
 {
     match tail {
         Tail::Plain => true,
-        Tail::Short68 { key_id, .. } => key_id % (1 << 31) != rid,
+        Tail::Short68 { key_id, .. } => short_rid(*key_id) != rid,
         Tail::Ext120 {
             rid: other,
             hash,
             ..
-        } => *other != rid || *hash != HASH,
+        } => *other != rid || *hash != SIGNATURE_HASH,
     }
 }
 
