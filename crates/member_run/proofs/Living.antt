@@ -1,5 +1,5 @@
 -- A whole run, from its parts.
-use Rattle.std.proofs.Common.{◌≡◌, ◌≢◌, ◌⊎◌, inl, inr, ◌<◌, ◌≤◌, ◌+◌, ◌-◌, ◌*◌, ◌/◌, ◌^◌, ℕ, zero, suc, ℤ, Bool, true, false, min, List, [], ◌∷◌, ◌++◌, length, map, flat_map, reverse, take, Option, Some, None, IfSome, IsSome, unwrap_or, refl, sym, ◌∙◌, ap, subst, arith, append_assoc, if◌then◌else◌}
+use Rattle.std.proofs.Common.{◌≡◌, ◌≢◌, ◌⊎◌, inl, inr, ⊎_elim, ◌<◌, ◌≤◌, ◌+◌, ◌-◌, ◌*◌, ◌/◌, ◌^◌, ℕ, zero, suc, ℤ, Bool, true, false, min, List, [], ◌∷◌, ◌++◌, length, map, flat_map, reverse, take, Option, Some, None, IfSome, IsSome, unwrap_or, refl, sym, ◌∙◌, ap, subst, arith, append_assoc, if◌then◌else◌}
 use Rattle.std.specs.List.{AllByRecursion}
 use Rattle.std.specs.Prelude.{IsSomeAnd, ⊤}
 use Rattle.std.proofs.lemmas.List.{append-nil, length-map}
@@ -47,7 +47,7 @@ use Rattle.run_deeds.specs.Deeds.{Deed, Take, Print, Ending, Whole, NoRecord, No
 use Rattle.run_deeds.specs.Devices.{Faults, Given, IsBeforeTick, IsBehind, IsBetween, IsInCalls, IsToDo, LifeEndsBy, NeedsCount, NeedsDisk, NeedsMark, NeedsReading, NeedsReceipt, NeedsWord, Seen, SinkFailed, StopsAt, faults, seen}
 use Rattle.run_deeds.specs.Marks.{Covers, KeepsLoadable, MarksBeforeSends, Reserved, blocks_of}
 use Rattle.run_deeds.specs.Parts.{Part, Runs, Tallies}
-use Rattle.run_deeds.specs.Lives.{CallsForBlocks, KeptBy, Lives, Reports, Totals, behind_act}
+use Rattle.run_deeds.specs.Lives.{CallsForBlocks, KeptBy, Lives, Reports, StandsForBlocks, Totals, behind_act}
 use Rattle.run_deeds.proofs.Weaves.{is_weave}
 use Rattle.run_deeds.proofs.Orders.{InOrder, IsMissing, order_but, order_life}
 use Rattle.run_deeds.proofs.Composing.{runs_then}
@@ -56,7 +56,7 @@ use Rattle.member_run.specs.Running.{IsGoing, greatest_of, kept_of, member_of, t
 use Rattle.member_run.specs.Closing.{Closes}
 use Rattle.member_run.specs.Reserving.{IsLoadedFrom}
 use Rattle.member_run.specs.Starting.{HasBegun, HasStopped, IsOfStart}
-use Rattle.member_run.specs.Turning.{CallsFor, DueBy, TakesTurns, filled}
+use Rattle.member_run.specs.Turning.{CallsFor, DueBy, TakesTurns}
 use Rattle.member_run.proofs.Ordered.{captured_is, ends_taken, followed_none, given_are, history_of, lines_are, moves_are, reasons_are, requests_are, reverse_last, ticks_are}
 use Rattle.member_run.proofs.Blocks.{NoLife, mark_in, mark_stays, sends_in, turns_later}
 use Rattle.member_run.proofs.Leaving.{left_now, unused_then}
@@ -426,13 +426,17 @@ record TurnsUnder (conf : Conf) (kept turns : ℕ) (history : History) (old new 
   blocks : Reserved kept (told conf history)
       → CallsForBlocks why part.runs.ending part.runs.need (life_at (told conf (history_after history (all_done part.runs.deeds part.runs.ending))))
       entry.time (exit.time + 5 * blocks_of (life_at (told conf history)))
+  most : Reserved kept (told conf history)
+      → LeavesOnly entry exit
+      (StandsForBlocks why part.runs.ending part.runs.need (life_at (told conf (history_after history (all_done part.runs.deeds part.runs.ending))))
+      (unwrap_or (mark_in conf (history_after history (all_done part.runs.deeds part.runs.ending))) 0))
 
 turns_under : (conf : Conf) (kept turns : ℕ) (history : History) (old new : Running) (entry exit : DiskTold) (before now : Seen) (why : Why) → conf_of (member_of old) ≡ conf → kept_of old ≡ kept
     → TakesTurns turns history old new entry exit before now why → TurnsUnder conf kept turns history old new entry exit before now why
 turns_under conf kept turns history old new entry exit before now why set mark t =
     let P : Conf → Type 0 = λ (c : Conf). TurnsUnder c (kept_of old) turns history old new entry exit before now why in
     let Q : ℕ → Type 0 = λ (k : ℕ). TurnsUnder conf k turns history old new entry exit before now why in
-    subst Q mark (subst P set (record { part = t.part; disk = t.disk; blocks = t.blocks }))
+    subst Q mark (subst P set (record { part = t.part; disk = t.disk; blocks = t.blocks; most = t.most }))
 
 has_mark : (running : Running) (conf : Conf) (history : History) → conf_of (member_of running) ≡ conf → StandsForHistory (member_of running) history → IsSome (words_of (member_of running)).mark
     → IsSome (mark_in conf history)
@@ -456,14 +460,22 @@ none_marked conf is = let no : false ≡ true = is in let bad : ⊥ = cc in bad
 blocks_within : (why : Why) (ending : Ending) (need : Need) (entries : List Told) (start start' end end' : ℕ) → start ≤ start' → end' ≤ end
     → CallsForBlocks why ending need entries start end → CallsForBlocks why ending need entries start' end'
 blocks_within why ending need entries start start' end end' later fewer (inl few) = inl (omega (arith, later, fewer, few))
-blocks_within why ending need entries start start' end end' later fewer (inr (due, before, other, few)) = inr (due, before, other, omega (arith, later, fewer, few))
+blocks_within why ending need entries start start' end end' later fewer (inr (another, few)) = inr (another, omega (arith, later, fewer, few))
 
 -- a run whose turns were all taken reserved no more
 blocks_whole : (why : Why) (ending : Ending) (need : Need) (entries : List Told) (start end : ℕ) → ending ≡ Whole → need ≡ Turns 0
     → CallsForBlocks why ending need entries start end → end ≤ start + 5 * blocks_of entries
 blocks_whole why ending need entries start end whole all (inl few) = few
-blocks_whole why ending need entries start end whole all (inr (due, before, other, few)) =
-    let none_left : IsBeforeTick Whole (Turns 0) = rw (whole, all) at before in
+blocks_whole why ending need entries start end whole all (inr (another, few)) =
+    let none_left : IsBeforeTick Whole (Turns 0) = rw (whole, all) at another.1 in
+    absurd (omega (arith, none_left))
+
+-- nor does an image of it stand for more
+stands_whole : (why : Why) (ending : Ending) (need : Need) (entries : List Told) (mark : ℕ) (image : List ℕ) → ending ≡ Whole → need ≡ Turns 0
+    → StandsForBlocks why ending need entries mark image → mark_of_image image ≤ mark + 64 * blocks_of entries
+stands_whole why ending need entries mark image whole all (inl low) = low
+stands_whole why ending need entries mark image whole all (inr (another, low)) =
+    let none_left : IsBeforeTick Whole (Turns 0) = rw (whole, all) at another.1 in
     absurd (omega (arith, none_left))
 
 pub record Parted (conf : Conf) (turns : ℕ) (stood : Stood) (new : Running) (entry exit : DiskTold) (before now : Seen) (why : Why) : Type 0 where
@@ -473,7 +485,8 @@ pub record Parted (conf : Conf) (turns : ℕ) (stood : Stood) (new : Running) (e
   pub within : unwrap_or (mark_in conf (reverse runs.taken)) 0 + 64 * blocks_of (life_at (told conf (reverse runs.taken))) < 2 ^ 32
   pub calls : exit.time ≤ entry.time + 5 * (1 + sends_in conf (reverse runs.taken) / 64)
   pub blocks : CallsForBlocks why runs.ending runs.need (life_at (told conf (reverse runs.taken))) entry.time exit.time
-  pub most : LeavesOnly entry exit (λ image. mark_of_image image ≤ filled (told conf (reverse runs.taken)))
+  pub most : LeavesOnly entry exit
+      (StandsForBlocks why runs.ending runs.need (life_at (told conf (reverse runs.taken))) (unwrap_or (mark_in conf (reverse runs.taken)) 0))
   pub reserved : why ≡ Done → Reserved (kept_of new) (told conf (reverse runs.taken))
   pub greatest : greatest_of new ≡ greatest_count (told conf (reverse runs.taken))
   -- the sink that failed is none of the Life
@@ -508,8 +521,8 @@ parted_of conf turns entry mid exit before between now old new why begun going t
           let P : History → Type 0 = λ (h : History). unwrap_or (mark_in conf h) 0 + 64 * blocks_of (life_at (told conf h)) < 2 ^ 32 in
           subst P same disk.within;
       most =
-          let P : History → Type 0 = λ (h : History). LeavesOnly mid exit (λ image. mark_of_image image ≤ filled (told conf h)) in
-          subst P same disk.most;
+          let Fit : History → Type 0 = λ (h : History). LeavesOnly mid exit (StandsForBlocks why all.ending all.need (life_at (told conf h)) (unwrap_or (mark_in conf h) 0)) in
+          subst Fit same (rw (both.2, both.3) (two.most reserved));
       calls =
           let P : History → Type 0 = λ (h : History). exit.time ≤ mid.time + 5 * (1 + sends_in conf h / 64) in
           subst P same (let few : P newer = omega (arith, disk.calls) in few);
@@ -533,10 +546,6 @@ parted_of conf turns entry mid exit before between now old new why begun going t
 
 -- ---- All that is said of a run
 
--- a run's requests, and one block more, above the mark of its Life
-abbrev pub most_at : Stood → Given → ℕ
-most_at stood given = stood.mark + 64 * (1 + length (sends_among given.link) / 64)
-
 pub lives_made : (conf : Conf) (turns : ℕ) (entry exit : DiskTold) (before now : Seen) (stood : Stood) (given : Given) (taken : List Event) (ending : Ending) (need : Need) (end : LifeEnd) (text : List ℕ)
     → IfSome entry.content (λ c. stood.mark ≡ mark_of_image c)
     → Lived conf turns stood before now given taken ending need end
@@ -550,10 +559,10 @@ pub lives_made : (conf : Conf) (turns : ℕ) (entry exit : DiskTold) (before now
     → (taken ≢ [] → stood.mark + 64 * blocks_of (life_at (told conf (reverse taken))) < 2 ^ 32)
     → exit.time ≤ entry.time + 4 + 5 * (1 + length (sends_among given.link) / 64)
     → CallsForBlocks end.why ending need (life_at (told conf (reverse taken))) (entry.time + 4) exit.time
-    → LeavesOnly entry exit (λ image. StandsAsBefore entry image ⊎ (mark_of_image image ≤ most_at stood given))
+    → LeavesOnly entry exit (λ image. StandsAsBefore entry image ⊎ StandsForBlocks end.why ending need (life_at (told conf (reverse taken))) stood.mark image)
     → LeavesOnly entry exit (KeepsUnused entry)
     → ((taken ≢ []) ⊎ ((end.why ≢ BadVersion) × (end.why ≢ DiskFault)) → (image : List ℕ) → exit.may_leave image
-    → IsLoadable image × (mark_of_image image ≤ most_at stood given))
+    → IsLoadable image × StandsForBlocks end.why ending need (life_at (told conf (reverse taken))) stood.mark image)
     → (end.why ≡ Done → IfSome exit.content (λ c. mark_of_image c ≡ stood.mark + 64 * blocks_of (life_at (told conf (reverse taken)))))
     → Lives conf turns entry exit before now end
 lives_made conf turns entry exit before now stood given taken ending need end text stood_for lived reports out ends well life_last kept loadable loads marks within calls blocks most unused loaded reserved = record {
@@ -641,18 +650,18 @@ disk_calls : (conf : Conf) (turns : ℕ) (stood : Stood) (entry mid exit : DiskT
 disk_calls conf turns stood entry mid exit before now new why calls p requests start =
     omega (arith, p.calls, start, tries conf stood.mark p.runs.taken calls p.begins requests)
 
--- no image of the turns stands for more than a block above those that the requests fill
-most_of : (conf : Conf) (turns : ℕ) (stood : Stood) (mid exit : DiskTold) (before now : Seen) (new : Running) (why : Why) (given : Given) (p : Parted conf turns stood new mid exit before now why)
-    → map posted_of (sends_among given.link) ≡ requests_of conf (reverse p.runs.taken) → LeavesOnly mid exit (λ image. mark_of_image image ≤ most_at stood given)
-most_of conf turns stood mid exit before now new why given p requests =
+-- no image of the turns stands for more than the end of a block that was begun above the mark of the Life
+most_of : (conf : Conf) (turns : ℕ) (stood : Stood) (mid exit : DiskTold) (before now : Seen) (new : Running) (why : Why) (p : Parted conf turns stood new mid exit before now why)
+    → LeavesOnly mid exit (StandsForBlocks why p.runs.ending p.runs.need (life_at (told conf (reverse p.runs.taken))) stood.mark)
+most_of conf turns stood mid exit before now new why p =
     let mark : unwrap_or (mark_in conf (reverse p.runs.taken)) 0 ≡ stood.mark = rw (life_mark conf stood.mark p.runs.taken p.begins) refl in
-    let sent = tries conf stood.mark p.runs.taken given.link p.begins requests in
-    weaker p.most (λ image low. omega (arith, low, mark, sent))
+    let P : ℕ → Type 0 = λ (n : ℕ). LeavesOnly mid exit (StandsForBlocks why p.runs.ending p.runs.need (life_at (told conf (reverse p.runs.taken))) n) in
+    subst P mark p.most
 
 -- those of the load stand for marks at entry
-most_with : (entry mid exit : DiskTold) (stood : Stood) (given : Given) → LeavesOnly entry mid (StandsAsBefore entry) → LeavesOnly mid exit (λ image. mark_of_image image ≤ most_at stood given)
-    → LeavesOnly entry exit (λ image. StandsAsBefore entry image ⊎ (mark_of_image image ≤ most_at stood given))
-most_with entry mid exit stood given first next = and_then first next (λ image stands. inl stands) (λ image low. inr low)
+most_with : {P : List ℕ → Type 0} (entry mid exit : DiskTold) → LeavesOnly entry mid (StandsAsBefore entry) → LeavesOnly mid exit P
+    → LeavesOnly entry exit (λ image. StandsAsBefore entry image ⊎ P image)
+most_with entry mid exit first next = and_then first next (λ image stands. inl stands) (λ image low. inr low)
 
 -- it can be loaded, as each image between the turns can
 loads_of : (mid exit : DiskTold) (running : Running) → IsGoing mid running → KeepsLoadable mid exit → (image : List ℕ) → exit.may_leave image → IsLoadable image
@@ -686,7 +695,7 @@ lives_stopped conf turns entry mid exit before between now old new why not begun
     let r = p.runs in
     let lived = lived_of conf turns stood before now stood.mark (kept_of new) (totals_of new) why r in
     let end = with_why why (totals_of new) in
-    let most = most_of conf turns stood mid exit before now new why r.given p lived.requests in
+    let most = most_of conf turns stood mid exit before now new why p in
     lives_made conf turns entry exit before now stood r.given r.taken r.ending r.need end (printed conf [] r.deeds r.ending) begun.stood_for
     (lived_with conf turns stood before now r.given r.taken r.ending r.need why (totals_of new) lived)
     (reports_of conf end r.deeds r.ending r.need r.taken r.takes not r.does.has_line) r.does.out r.ends r.well (λ is now only. absurd (p.behind is now only))
@@ -695,7 +704,7 @@ lives_stopped conf turns entry mid exit before between now old new why not begun
     (λ some. within_of conf turns stood mid exit before now new why p)
     (disk_calls conf turns stood entry mid exit before now new why r.given.link p lived.requests disk.start)
     (blocks_within why r.ending r.need (life_at (told conf (reverse r.taken))) mid.time (entry.time + 4) exit.time exit.time disk.start (omega arith) p.blocks)
-    (most_with entry mid exit stood r.given disk.stands most) (unused_then disk.is_mid disk.unused_first disk.unused_next)
+    (most_with entry mid exit disk.stands most) (unused_then disk.is_mid disk.unused_first disk.unused_next)
     (λ any image left. (loads_of mid exit old going disk.loads_next image left, left_now mid exit _ disk.is_exit most image left)) (λ is. absurd (not is))
 
 -- ---- The closing lines
@@ -738,6 +747,12 @@ life_only (life (acts tried are none)) only is = refl
 life_only (life (acts tried are (reads none))) only is = absurd (let bad : ⊥ = cc in bad)
 life_only (life (acts tried are (reads (draws rest)))) only is = absurd (let bad : ⊥ = cc in bad)
 
+-- what stands for the blocks that were reserved stands for those that were begun
+within_blocks : (why : Why) (ending : Ending) (need : Need) (entries : List Told) (mark : ℕ) (entry exit : DiskTold)
+    → LeavesOnly entry exit (λ image. StandsAsBefore entry image ⊎ (mark_of_image image ≤ mark + 64 * blocks_of entries))
+    → LeavesOnly entry exit (λ image. StandsAsBefore entry image ⊎ StandsForBlocks why ending need entries mark image)
+within_blocks why ending need entries mark entry exit most = weaker most (λ image stands. ⊎_elim (λ was. inl was) (λ low. inr (inl low)) stands)
+
 module _ (conf : Conf) (turns : ℕ) (entry exit : DiskTold) (before : Seen) (stood : Stood) (given : Given) (taken : List Event) (need : Need) (end : LifeEnd) (printed_text : List ℕ)
     (link : Option (List LinkCall)) (clock : Option (List ClockCall)) (words capture out out' : Option (List ℕ)) (link_faults cf ef df kf of of' : ℕ)
     (stood_for : IfSome entry.content (λ c. stood.mark ≡ mark_of_image c))
@@ -748,9 +763,9 @@ module _ (conf : Conf) (turns : ℕ) (entry exit : DiskTold) (before : Seen) (st
     (within : stood.mark + 64 * blocks_of (life_at (told conf (reverse taken))) < 2 ^ 32)
     (calls : exit.time ≤ entry.time + 4 + 5 * (1 + length (sends_among given.link) / 64))
     (blocks : exit.time ≤ entry.time + 4 + 5 * blocks_of (life_at (told conf (reverse taken))))
-    (most : LeavesOnly entry exit (λ image. StandsAsBefore entry image ⊎ (mark_of_image image ≤ most_at stood given)))
+    (most : LeavesOnly entry exit (λ image. StandsAsBefore entry image ⊎ (mark_of_image image ≤ stood.mark + 64 * blocks_of (life_at (told conf (reverse taken))))))
     (unused : LeavesOnly entry exit (KeepsUnused entry))
-    (low : (image : List ℕ) → exit.may_leave image → mark_of_image image ≤ most_at stood given)
+    (low : (image : List ℕ) → exit.may_leave image → mark_of_image image ≤ stood.mark + 64 * blocks_of (life_at (told conf (reverse taken))))
     (loaded : (image : List ℕ) → exit.may_leave image → IsLoadable image)
     (reserved : IfSome exit.content (λ c. mark_of_image c ≡ stood.mark + 64 * blocks_of (life_at (told conf (reverse taken))))) where
   closes : (why : Why) → Closes end why out out' of of'
@@ -762,7 +777,7 @@ module _ (conf : Conf) (turns : ℕ) (entry exit : DiskTold) (before : Seen) (st
       (ap (λ (l : List ℕ). l ++ joined (closing_lines end)) is_report)
       (added_more before.out out out' printed_text (joined (closing_lines end)) wrote added)
       (tt, ap (λ (n : ℕ). faults cf ef df kf n) none_failed ∙ same)
-      (λ is. well) (λ is now only. absurd (let bad : ⊥ = cc is in bad)) tt (λ any. loads) still marks (λ some. within) calls (inl blocks) most unused (λ any image left. (loaded image left, low image left)) (λ is. reserved)
+      (λ is. well) (λ is now only. absurd (let bad : ⊥ = cc is in bad)) tt (λ any. loads) still marks (λ some. within) calls (inl blocks) (within_blocks Done Whole need (life_at (told conf (reverse taken))) stood.mark entry exit most) unused (λ any image left. (loaded image left, inl (low image left))) (λ is. reserved)
   closes SinkFault (first, rest, line, front, are, added, fails) =
       let cut = joined first ++ take front line in
       let text = printed_text ++ cut in
@@ -773,7 +788,7 @@ module _ (conf : Conf) (turns : ℕ) (entry exit : DiskTold) (before : Seen) (st
       (first, rest, well, are, ap (λ (l : List ℕ). l ++ cut) is_report ∙ sym (append_assoc (report_of conf (reverse taken)) (joined first) (take front line)))
       (added_more before.out out out' printed_text cut wrote added)
       (well, subst Failed same (fails, refl))
-      (λ is. well) (λ is now only. life_only lived.weaves (ap (λ (l : List Event). taken ++ l) refl ∙ only) well) tt (λ any. loads) still marks (λ some. within) calls (inl blocks) most unused (λ any image left. (loaded image left, low image left)) (λ is. reserved)
+      (λ is. well) (λ is now only. life_only lived.weaves (ap (λ (l : List Event). taken ++ l) refl ∙ only) well) tt (λ any. loads) still marks (λ some. within) calls (inl blocks) (within_blocks SinkFault ending need (life_at (told conf (reverse taken))) stood.mark entry exit most) unused (λ any image left. (loaded image left, inl (low image left))) (λ is. reserved)
   closes DiskFault never = absurd never
   closes BadVersion never = absurd never
   closes StampsSpent never = absurd never
@@ -802,14 +817,15 @@ lives_closed conf turns entry mid exit before between link clock words capture o
     let whole = whole_is r.ending r.ends.0 in
     let lived = lived_of conf turns stood before taken stood.mark (kept_of new) (totals_of new) Done r in
     let takes = rw whole at r.takes in
-    let most = most_of conf turns stood mid exit before taken new Done r.given p lived.requests in
+    let entries = life_at (told conf (reverse r.taken)) in
+    let most = weaker (most_of conf turns stood mid exit before taken new Done p) (λ image stands. stands_whole Done r.ending r.need entries stood.mark image whole (r.well refl) stands) in
     closes conf turns entry exit before stood r.given r.taken r.need (totals_of new) (printed conf [] r.deeds Whole)
     link clock words capture out out' link_faults cf ef df kf of of' begun.stood_for (rw whole at lived) (report_whole conf r.deeds r.taken takes) (rw whole at r.does.out)
     r.ends.1 (r.well refl) disk.loads (loads_then disk.loads_first disk.loads_next) (marks_kept conf stood.mark (greatest_of new) r.taken entry exit p.begins covers p.greatest (marks_then disk.first disk.next))
     (within_of conf turns stood mid exit before taken new Done p)
     (disk_calls conf turns stood entry mid exit before taken new Done r.given.link p lived.requests disk.start)
     (let start = disk.start in let few = blocks_whole Done r.ending r.need (life_at (told conf (reverse r.taken))) mid.time exit.time whole (r.well refl) p.blocks in omega (arith, few, start))
-    (most_with entry mid exit stood r.given disk.stands most) (unused_then disk.is_mid disk.unused_first disk.unused_next) (left_now mid exit _ disk.is_exit most)
+    (most_with entry mid exit disk.stands most) (unused_then disk.is_mid disk.unused_first disk.unused_next) (left_now mid exit _ disk.is_exit most)
     (loads_of mid exit old going disk.loads_next) (reserved_at conf turns stood mid exit before taken new p goes) why closing
 
 -- ---- A run that ended in its first part
@@ -1051,12 +1067,12 @@ loadable_of f loads (inl some) = loads (f some)
 loadable_of f loads (inr neither) = loads neither
 
 -- an image of a disk that was loaded stands for the mark of the Life
-from_mark : (entry exit : DiskTold) (stood : Stood) (image : List ℕ) (n : ℕ) → IfSome entry.content (λ c. stood.mark ≡ mark_of_image c)
-    → IsLoadable image × IsSomeAnd entry.content (λ c. mark_of_image image ≡ mark_of_image c) → IsLoadable image × (mark_of_image image ≤ stood.mark + 64 * (1 + n / 64))
-from_mark entry exit stood image n stood_for from = (from.0, by_content entry.content stood_for from.1)
+from_mark : (entry exit : DiskTold) (stood : Stood) (image : List ℕ) (blocks : ℕ) → IfSome entry.content (λ c. stood.mark ≡ mark_of_image c)
+    → IsLoadable image × IsSomeAnd entry.content (λ c. mark_of_image image ≡ mark_of_image c) → IsLoadable image × (mark_of_image image ≤ stood.mark + 64 * blocks)
+from_mark entry exit stood image blocks stood_for from = (from.0, by_content entry.content stood_for from.1)
   where
     by_content : (content : Option (List ℕ)) → IfSome content (λ c. stood.mark ≡ mark_of_image c) → IsSomeAnd content (λ c. mark_of_image image ≡ mark_of_image c)
-        → mark_of_image image ≤ stood.mark + 64 * (1 + n / 64)
+        → mark_of_image image ≤ stood.mark + 64 * blocks
     by_content None is same = absurd same
     by_content (Some c) is same = omega (arith, is, same)
 
@@ -1087,5 +1103,7 @@ lives_never conf turns entry exit before now why of stopped version left loads c
     (start_within conf stood.mark all.taken (taken_start stood.mark all.taken (missing_in all.ending) at) lived.fits)
     (omega (arith, calls)) (inl (omega (arith, calls))) (weaker stands (λ image was. inl was)) unused
     (loadable_of (begun_not why before now r.deeds r.ending r.need r.taken of r.takes (start_none r.weaves) r.ends)
-    (λ neither image left. from_mark entry exit stood image (length (sends_among all.given.link)) stopped.stood_for ((from neither.0 neither.1).each image left)))
+    (λ neither image left.
+    let low = from_mark entry exit stood image (blocks_of (life_at (told conf (reverse all.taken)))) stopped.stood_for ((from neither.0 neither.1).each image left) in
+    (low.0, inl low.1)))
     (λ is. absurd (not is))

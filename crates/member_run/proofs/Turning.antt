@@ -19,14 +19,14 @@ use Rattle.time_machine.proofs.Lists.{all_split}
 use Rattle.sntp_core.specs.Standing.{StandsForHistory, conf_of, words_of}
 use Rattle.stamp_keep.specs.Image.{mark_of_image}
 use Rattle.stamp_keep.specs.Keep.{KeepsMarks, KeepsUnused}
-use Rattle.stamp_keep.proofs.Moments.{and_then, started}
+use Rattle.stamp_keep.proofs.Moments.{and_then, started, weaker}
 use Rattle.run_deeds.specs.declared.life_end.LifeEnd.{LifeEnd}
 use Rattle.run_deeds.specs.declared.life_end.Why.{Why}
 use Rattle.run_deeds.specs.declared.life_end.Why.TheVariants.{Done, DiskFault, BadVersion, StampsSpent, ClockFault, EntropyFault, SinkFault}
 use Rattle.run_deeds.specs.Weaving.{Need, Stood, Start, Turns, WordFor, ReceiptNow, ReadingFor, Call, CallReading, CallWord, Round, RoundReading, Act, Weaves, none, acts, life, reads, draws, gets, quiet, lost, arrives, followed_by, turns_of}
 use Rattle.run_deeds.specs.Deeds.{Deed, Take, Ending, Whole, NoRecord, NoLine, IsWhole, all_done, events_given, history_after, missing_in}
 use Rattle.run_deeds.specs.Devices.{Faults, IsBeforeTick, IsBehind, IsBetween, IsInCalls, IsToDo, LifeEndsBy, NeedsCount, NeedsDisk, NeedsMark, NeedsReading, NeedsReceipt, NeedsWord, Seen, nothing}
-use Rattle.run_deeds.specs.Lives.{CallsForBlocks}
+use Rattle.run_deeds.specs.Lives.{CallsForBlocks, StandsForBlocks}
 use Rattle.run_deeds.specs.Marks.{Covers, KeepsLoadable, Reserved, last_count}
 use Rattle.run_deeds.specs.Parts.{Part, Runs}
 use Rattle.run_deeds.proofs.Weaves.{is_turns}
@@ -35,7 +35,7 @@ use Rattle.run_deeds.proofs.Stopping.{tallies_none}
 use Rattle.run_deeds.proofs.Composing.{runs_then}
 use Rattle.member_run.specs.declared.running.Running.{Running}
 use Rattle.member_run.specs.Running.{CallsWhereDue, IsGoing, IsPart, IsUsedUp, RisesWhereDue, greatest_of, kept_of, member_of, totals_of}
-use Rattle.member_run.specs.Turning.{DueBy, TakesTurns, filled}
+use Rattle.member_run.specs.Turning.{DueBy, TakesTurns}
 use Rattle.member_run.proofs.Ordered.{given_are, history_of}
 use Rattle.member_run.proofs.Leaving.{unused_same, unused_then}
 use Rattle.member_run.proofs.Parting.{stops_as}
@@ -467,6 +467,10 @@ used_up running conf history last reserved used = omega (arith, last, reserved.b
 
 -- ---- Turns
 
+-- the end of the last block that was reserved
+abbrev pub block_end : Conf → History → ℕ
+block_end conf history = unwrap_or (mark_in conf history) 0 + 64 * blocks_in conf history
+
 -- so many turns were taken after a history, and so many are left
 pub record Turned (turns left : ℕ) (history : History) (old new : Running) (entry exit : DiskTold) (before now : Seen) : Type 0 where
   pub part : Part (conf_of (member_of old)) (Turns turns) (Turns left) history before now (member_of new) (kept_of old) (kept_of new) (totals_of old) (totals_of new) Done
@@ -474,7 +478,7 @@ pub record Turned (turns left : ℕ) (history : History) (old new : Running) (en
       → exit.time + 5 * blocks_in (conf_of (member_of old)) history
       ≤ entry.time + 5 * blocks_in (conf_of (member_of old)) (history_after history (all_done part.runs.deeds part.runs.ending))
   pub most : Reserved (kept_of old) (told (conf_of (member_of old)) history)
-      → LeavesOnly entry exit (λ image. mark_of_image image ≤ filled (told (conf_of (member_of old)) (history_after history (all_done part.runs.deeds part.runs.ending))))
+      → LeavesOnly entry exit (λ image. mark_of_image image ≤ block_end (conf_of (member_of old)) (history_after history (all_done part.runs.deeds part.runs.ending)))
 
 pub turned_none : (turns : ℕ) (history : History) (running : Running) (disk : DiskTold) (now : Seen) → IsDisk disk → IsGoing disk running → StandsForHistory (member_of running) history
     → Turned turns turns history running running disk disk now now
@@ -487,8 +491,8 @@ turned_none turns history running disk now is going stands = record {
   };
   calls = λ was. omega arith;
   most = λ was.
-      started disk (λ image. mark_of_image image ≤ filled (told (conf_of (member_of running)) history)) is
-      (λ image left. let blocks = was.blocks in omega (arith, going.fits.stands image left, blocks, blocks_low (life_at (told (conf_of (member_of running)) history))));
+      started disk (λ image. mark_of_image image ≤ block_end (conf_of (member_of running)) history) is
+      (λ image left. let blocks = was.blocks in omega (arith, going.fits.stands image left, blocks));
 }
 
 -- a call's part, under the configuration of the run
@@ -583,7 +587,7 @@ blocks_on why ending need conf between taken mid e m x blocks later counted (inr
     inl (omega (arith, due.1, was, more, used_up mid conf between counted.last counted.reserved due.0))
 blocks_on why ending need conf between taken mid e m x blocks later counted (inr due) was (inl nothing) before still (inr other) =
     rw nothing
-    (inr (is_due (life_at (told conf between)) (used_up mid conf between counted.last counted.reserved due.0), before nothing, other, omega (arith, due.1, was)))
+    (inr ((is_due (life_at (told conf between)) (used_up mid conf between counted.last counted.reserved due.0), before nothing, other), omega (arith, due.1, was)))
 
 spent_or_other : (why : Why) → (why ≡ StampsSpent) ⊎ (why ≢ StampsSpent)
 spent_or_other StampsSpent = inl refl
@@ -623,36 +627,65 @@ room_on why conf between taken mid later counted empty spends covered below (inr
     let stays = ap (λ (o : Option ℕ). unwrap_or o 0) (mark_stays conf between taken later) in
     omega (arith, all, stays)
 
--- no image stands for more than a block above those that the requests fill
+-- no image of a whole turn stands for more than the blocks that are reserved behind it
 most_on : (conf : Conf) (between : History) (taken : List Event) (mid : Running) (count : ℕ) → NoLife taken → Counted mid conf between
+    → 1 + sends_in conf between / 64 ≤ blocks_in conf (followed_by between taken)
     → (count ≤ kept_of mid) ⊎ (IsUsedUp mid × (count ≤ kept_of mid + 64))
-    → count ≤ filled (told conf (followed_by between taken))
-most_on conf between taken mid count later counted (inl low) =
+    → count ≤ block_end conf (followed_by between taken)
+most_on conf between taken mid count later counted ticked (inl low) =
     let blocks = counted.reserved.blocks in
     let stays = ap (λ (o : Option ℕ). unwrap_or o 0) (mark_stays conf between taken later) in
-    omega (arith, low, blocks, stays, sends_rise conf between taken later, blocks_low (life_at (told conf between)))
-most_on conf between taken mid count later counted (inr due) =
+    omega (arith, low, blocks, stays, blocks_stay conf between taken later)
+most_on conf between taken mid count later counted ticked (inr due) =
     let blocks = counted.reserved.blocks in
     let stays = ap (λ (o : Option ℕ). unwrap_or o 0) (mark_stays conf between taken later) in
     let full = used_up mid conf between counted.last counted.reserved due.0 in
-    omega (arith, due.1, blocks, stays, full, sends_rise conf between taken later)
+    omega (arith, due.1, blocks, stays, full, ticked)
 
 some_or_none : {A : Type 0} (es : List A) → (es ≢ []) ⊎ (es ≡ [])
 some_or_none [] = inr refl
 some_or_none (e ∷ es) = inl (λ is. let bad : ⊥ = cc is in bad)
 
 -- nor one of the turns before
-low_on : (conf : Conf) (between : History) (taken : List Event) (count : ℕ) → NoLife taken → count ≤ filled (told conf between) → count ≤ filled (told conf (followed_by between taken))
+low_on : (conf : Conf) (between : History) (taken : List Event) (count : ℕ) → NoLife taken → count ≤ block_end conf between → count ≤ block_end conf (followed_by between taken)
 low_on conf between taken count later low =
     let stays = ap (λ (o : Option ℕ). unwrap_or o 0) (mark_stays conf between taken later) in
-    omega (arith, low, stays, sends_rise conf between taken later)
+    omega (arith, low, stays, blocks_stay conf between taken later)
 
 moments_on : (conf : Conf) (between : History) (taken : List Event) (mid : Running) (e m x : DiskTold) → NoLife taken → Counted mid conf between
-    → LeavesOnly e m (λ image. mark_of_image image ≤ filled (told conf between)) → RisesWhereDue mid m x
-    → LeavesOnly e x (λ image. mark_of_image image ≤ filled (told conf (followed_by between taken)))
-moments_on conf between taken mid e m x later counted first next =
+    → 1 + sends_in conf between / 64 ≤ blocks_in conf (followed_by between taken)
+    → LeavesOnly e m (λ image. mark_of_image image ≤ block_end conf between) → RisesWhereDue mid m x
+    → LeavesOnly e x (λ image. mark_of_image image ≤ block_end conf (followed_by between taken))
+moments_on conf between taken mid e m x later counted ticked first next =
     and_then first next (λ image low. low_on conf between taken (mark_of_image image) later low)
-    (λ image rises. most_on conf between taken mid (mark_of_image image) later counted rises)
+    (λ image rises. most_on conf between taken mid (mark_of_image image) later counted ticked rises)
+
+-- of a turn that ends the run, an image stands for a block more where its Tick was not taken
+stands_on : (why : Why) (ending : Ending) (need : Need) (conf : Conf) (between : History) (taken : List Event) (mid : Running) (image : List ℕ) → NoLife taken → Counted mid conf between
+    → (taken ≡ []) ⊎ (blocks_in conf (followed_by between taken) ≡ 1 + sends_in conf between / 64) → (taken ≡ [] → IsBeforeTick ending need) → why ≢ StampsSpent
+    → (mark_of_image image ≤ kept_of mid) ⊎ (IsUsedUp mid × (mark_of_image image ≤ kept_of mid + 64))
+    → StandsForBlocks why ending need (life_at (told conf (followed_by between taken))) (unwrap_or (mark_in conf (followed_by between taken)) 0) image
+stands_on why ending need conf between taken mid image later counted reserves before other (inl low) =
+    let blocks = counted.reserved.blocks in
+    inl (low_on conf between taken (mark_of_image image) later (omega (arith, low, blocks)))
+stands_on why ending need conf between taken mid image later counted (inr more) before other (inr due) =
+    inl (most_on conf between taken mid (mark_of_image image) later counted (omega (arith, more)) (inr due))
+stands_on why ending need conf between taken mid image later counted (inl nothing) before other (inr due) =
+    let blocks = counted.reserved.blocks in
+    let is = is_due (life_at (told conf between)) (used_up mid conf between counted.last counted.reserved due.0) in
+    rw nothing (inr ((is, before nothing, other), omega (arith, due.1, blocks)))
+
+-- where no mark is left the disk is as before
+moments_end : (why : Why) (ending : Ending) (need : Need) (conf : Conf) (between : History) (taken : List Event) (mid : Running) (e m x : DiskTold) → NoLife taken → Counted mid conf between
+    → LeavesOnly e m (λ image. mark_of_image image ≤ block_end conf between) → RisesWhereDue mid m x
+    → (taken ≡ []) ⊎ (blocks_in conf (followed_by between taken) ≡ 1 + sends_in conf between / 64) → (taken ≡ [] → IsBeforeTick ending need)
+    → (why ≡ StampsSpent → x ≡ m) → (why ≡ StampsSpent) ⊎ (why ≢ StampsSpent)
+    → LeavesOnly e x (StandsForBlocks why ending need (life_at (told conf (followed_by between taken))) (unwrap_or (mark_in conf (followed_by between taken)) 0))
+moments_end why ending need conf between taken mid e m x later counted first next reserves before still (inl is) =
+    rw (still is) (weaker first (λ image low. inl (low_on conf between taken (mark_of_image image) later low)))
+moments_end why ending need conf between taken mid e m x later counted first next reserves before still (inr other) =
+    and_then first next (λ image low. inl (low_on conf between taken (mark_of_image image) later low))
+    (λ image rises. stands_on why ending need conf between taken mid image later counted reserves before other rises)
 
 pub turned_on : (turns left : ℕ) (history : History) (old mid new : Running) (e m x : DiskTold) (a b c : Seen)
     → Turned turns (suc left) history old mid e m a b → mid.last ≡ last_count (words_of mid.member) → CallsWhereDue mid m x → RisesWhereDue mid m x
@@ -677,8 +710,8 @@ turned_on turns left history old mid new e m x a b c was last calls rises turn =
             last = last_is mid conf between one.is_set one.stands last;
             reserved = one.runs.reserved refl reserved;
           } in
-          let P : History → Type 0 = λ (h : History). LeavesOnly e x (λ image. mark_of_image image ≤ filled (told conf h)) in
-          subst P (sym on.ends) (moments_on conf between on.taken mid e m x on.later counted (was.most reserved) rises);
+          let P : History → Type 0 = λ (h : History). LeavesOnly e x (λ image. mark_of_image image ≤ block_end conf h) in
+          subst P (sym on.ends) (moments_on conf between on.taken mid e m x on.later counted (on.whole refl) (was.most reserved) rises);
     }
 
 -- what the answers that speak of the disk say
@@ -703,7 +736,7 @@ due_by SinkFault conf between taken mid counted first empty never used spent = t
 pub turns_end : (turns left : ℕ) (history : History) (old mid new : Running) (e m x : DiskTold) (a b c : Seen) (why : Why) → why ≢ Done → why ≢ BadVersion
     → Turned turns (suc left) history old mid e m a b → mid.last ≡ last_count (words_of mid.member) → CallsWhereDue mid m x
     → (why ≡ DiskFault → IsUsedUp mid) → why ≡ StampsSpent ↔ (IsUsedUp mid × (4294967231 < kept_of mid)) → mid.last ≤ kept_of mid → kept_of mid < 2 ^ 32
-    → RisesWhereDue mid m x → (why ≡ StampsSpent → x.time ≡ m.time) → ((k : ℕ) → IsPart mid new (Turns (suc k)) (Turns k) b c why)
+    → RisesWhereDue mid m x → (why ≡ StampsSpent → x ≡ m) → ((k : ℕ) → IsPart mid new (Turns (suc k)) (Turns k) b c why)
     → TakesTurns turns history old new e x a c why
 unfolding runs_short
 turns_end turns left history old mid new e m x a b c why not never was last calls used spent covered below rises still turn =
@@ -728,9 +761,6 @@ turns_end turns left history old mid new e m x a b c why not never was last call
           record {
             calls = rw on.ends all;
             within = rw on.ends room;
-            most =
-                let P : History → Type 0 = λ (h : History). LeavesOnly e x (λ image. mark_of_image image ≤ filled (told conf h)) in
-                subst P (sym on.ends) (moments_on conf between on.taken mid e m x on.later counted (was.most reserved) rises);
             due = rw on.ends due;
           };
       blocks = λ reserved.
@@ -739,8 +769,17 @@ turns_end turns left history old mid new e m x a b c why not never was last call
             reserved = one.runs.reserved refl reserved;
           } in
           let all = blocks_on why on.part.runs.ending on.part.runs.need conf between on.taken mid e m x (blocks_in conf history) on.later counted calls (was.calls reserved)
-          (turn_reserves conf between on.taken on.turn) on.first still (spent_or_other why) in
+          (turn_reserves conf between on.taken on.turn) on.first (λ is. ap (λ (d : DiskTold). d.time) (still is)) (spent_or_other why) in
           rw on.ends all;
+      most = λ reserved.
+          let counted : Counted mid conf between = record {
+            last = last_is mid conf between one.is_set one.stands last;
+            reserved = one.runs.reserved refl reserved;
+          } in
+          let P : History → Type 0 = λ (h : History). LeavesOnly e x (StandsForBlocks why on.part.runs.ending on.part.runs.need (life_at (told conf h)) (unwrap_or (mark_in conf h) 0)) in
+          subst P (sym on.ends)
+          (moments_end why on.part.runs.ending on.part.runs.need conf between on.taken mid e m x on.later counted (was.most reserved) rises
+          (turn_reserves conf between on.taken on.turn) on.first still (spent_or_other why));
     }
 
 -- all turns were taken
@@ -756,10 +795,10 @@ turns_done turns history old new e x a b was going = record {
         within =
             let blocks = (was.part.runs.reserved refl reserved).blocks in
             omega (arith, going.below, blocks);
-        most = was.most reserved;
         due = tt;
       };
   blocks = λ reserved. inl (was.calls reserved);
+  most = λ reserved. weaker (was.most reserved) (λ image low. inl low);
 }
 
 -- ---- The turns of a call
@@ -835,7 +874,7 @@ goes_on turns done old mid new e m x a b c below was turn going calls rises leas
 
 pub goes_stop : (turns done : ℕ) (old mid new : Running) (e m x : DiskTold) (a b c : Seen) (why : Why) → done < turns → Goes turns done old mid e m a b
     → why ≢ Done → why ≢ BadVersion → ((k : ℕ) → IsPart mid new (Turns (suc k)) (Turns k) b c why) → CallsWhereDue mid m x
-    → (why ≡ DiskFault → IsUsedUp mid) → why ≡ StampsSpent ↔ (IsUsedUp mid × (4294967231 < kept_of mid)) → RisesWhereDue mid m x → (why ≡ StampsSpent → x.time ≡ m.time)
+    → (why ≡ DiskFault → IsUsedUp mid) → why ≡ StampsSpent ↔ (IsUsedUp mid × (4294967231 < kept_of mid)) → RisesWhereDue mid m x → (why ≡ StampsSpent → x ≡ m)
     → (history : History) → StandsForHistory (member_of old) history → TakesTurns turns history old new e x a c why
 goes_stop turns done old mid new e m x a b c why below was not never turn calls used spent rises still history stands =
     let one = one_left turns done was.left below was.sum in

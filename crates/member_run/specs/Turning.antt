@@ -2,7 +2,6 @@
 use Rattle.std.specs.Prelude.{ℕ, ◌+◌, ◌*◌, ◌/◌, ◌^◌, ◌<◌, ◌≤◌, List, unwrap_or, ⊤}
 use Rattle.slot_disk.specs.Calls.{LeavesOnly}
 use Rattle.slot_disk.specs.Told.{DiskTold}
-use Rattle.stamp_keep.specs.Image.{mark_of_image}
 use Rattle.time_machine.specs.Entries.{count_of, last_of}
 use Rattle.time_machine.specs.Events.{History, mark_of}
 use Rattle.time_machine.specs.Told.{Told, has_sent}
@@ -15,7 +14,7 @@ use Rattle.run_deeds.specs.Weaving.{Turns}
 use Rattle.run_deeds.specs.Deeds.{all_done, history_after}
 use Rattle.run_deeds.specs.Devices.{Seen}
 use Rattle.run_deeds.specs.Parts.{Part}
-use Rattle.run_deeds.specs.Lives.{CallsForBlocks}
+use Rattle.run_deeds.specs.Lives.{CallsForBlocks, StandsForBlocks}
 use Rattle.run_deeds.specs.Marks.{IsDue, Reserved, blocks_of}
 use Rattle.member_run.specs.declared.running.Running.{Running}
 use Rattle.member_run.specs.Running.{kept_of, member_of, totals_of}
@@ -31,17 +30,11 @@ DueBy ClockFault before = ⊤
 DueBy EntropyFault before = ⊤
 DueBy SinkFault before = ⊤
 
--- a block more than the requests of the last life fill above its mark
-abbrev pub filled : List Told → ℕ
-filled entries = unwrap_or (last_of (λ t. mark_of t.event) entries) 0 + 64 * (1 + count_of has_sent (life_at entries) / 64)
-
 -- The disk is called five times at most for each block, the one among them whose reserve may have failed. No count past
--- the last one of 32 bits is reserved, and no image of any moment stands for more than a block above those that the
--- requests fill.
+-- the last one of 32 bits is reserved.
 pub record CallsFor (older newer : List Told) (entry exit : DiskTold) (why : Why) : Type 0 where
   pub calls : exit.time + 5 * blocks_of (life_at older) ≤ entry.time + 5 * (1 + count_of has_sent (life_at newer) / 64)
   pub within : unwrap_or (last_of (λ t. mark_of t.event) newer) 0 + 64 * blocks_of (life_at newer) < 2 ^ 32
-  pub most : LeavesOnly entry exit (λ image. mark_of_image image ≤ filled newer)
   pub due : DueBy why newer
 
 -- so many turns after a history, in whose last life counts were reserved as they were due
@@ -54,3 +47,8 @@ pub record TakesTurns (turns : ℕ) (history : History) (old new : Running) (ent
       → CallsForBlocks why part.runs.ending part.runs.need
       (life_at (told (conf_of (member_of old)) (history_after history (all_done part.runs.deeds part.runs.ending))))
       entry.time (exit.time + 5 * blocks_of (life_at (told (conf_of (member_of old)) history)))
+  pub most : Reserved (kept_of old) (told (conf_of (member_of old)) history)
+      → LeavesOnly entry exit
+      (StandsForBlocks why part.runs.ending part.runs.need
+      (life_at (told (conf_of (member_of old)) (history_after history (all_done part.runs.deeds part.runs.ending))))
+      (unwrap_or (last_of (λ t. mark_of t.event) (told (conf_of (member_of old)) (history_after history (all_done part.runs.deeds part.runs.ending)))) 0))

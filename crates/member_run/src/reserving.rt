@@ -65,8 +65,7 @@ impl Running {
         ensures calls { CallsWhereDue self.old (D.told disk.old) (D.told disk.new) }
         ensures spent { IsErrOf result Why.StampsSpent
             ↔ (IsUsedUp self.old × (4294967231 < kept_of self.old)) }
-        ensures spent_still { IsErrOf result Why.StampsSpent
-            → (D.told disk.new).time ≡ (D.told disk.old).time }
+        ensures spent_still { IsErrOf result Why.StampsSpent → disk.new ≡ disk.old }
         ensures due { OnErr result (IsUsedUp self.old) }
         ensures cause { DiskBlamed result (D.faults disk.old) (D.faults disk.new) }
         ensures never_version { IsErrOf result Why.BadVersion → ⊥ }

@@ -73,8 +73,7 @@ impl Running {
         ensures disk { IsErrOf result Why.DiskFault → IsUsedUp self.old }
         ensures spent { IsErrOf result Why.StampsSpent
             ↔ (IsUsedUp self.old × (4294967231 < kept_of self.old)) }
-        ensures spent_still { IsErrOf result Why.StampsSpent
-            → (D.told disk.new).time ≡ (D.told disk.old).time }
+        ensures spent_still { IsErrOf result Why.StampsSpent → disk.new ≡ disk.old }
         ensures calls { CallsWhereDue self.old (D.told disk.old) (D.told disk.new) }
         ensures least { KeepsMarks (D.told disk.old) (D.told disk.new) }
         ensures most { RisesWhereDue self.old (D.told disk.old) (D.told disk.new) }
@@ -122,8 +121,7 @@ impl Running {
         ensures disk { IsErrOf result Why.DiskFault → IsUsedUp self.old }
         ensures spent { IsErrOf result Why.StampsSpent
             ↔ (IsUsedUp self.old × (4294967231 < kept_of self.old)) }
-        ensures spent_still { IsErrOf result Why.StampsSpent
-            → (D.told disk.new).time ≡ (D.told disk.old).time }
+        ensures spent_still { IsErrOf result Why.StampsSpent → disk.new ≡ disk.old }
         ensures calls { CallsWhereDue self.old (D.told disk.old) (D.told disk.new) }
         ensures least { KeepsMarks (D.told disk.old) (D.told disk.new) }
         ensures most { RisesWhereDue self.old (D.told disk.old) (D.told disk.new) }

@@ -135,8 +135,7 @@ impl Running {
         ensures disk { IsErrOf result Why.DiskFault → IsUsedUp self.old }
         ensures spent { IsErrOf result Why.StampsSpent
             ↔ (IsUsedUp self.old × (4294967231 < kept_of self.old)) }
-        ensures spent_still { IsErrOf result Why.StampsSpent
-            → (D.told disk.new).time ≡ (D.told disk.old).time }
+        ensures spent_still { IsErrOf result Why.StampsSpent → disk.new ≡ disk.old }
         ensures calls { CallsWhereDue self.old (D.told disk.old) (D.told disk.new) }
 
         // Whatever it answers, no image stands for less than one at entry, or than the greatest count sent, and a load
@@ -194,8 +193,7 @@ impl Running {
         ensures disk { IsErrOf result Why.DiskFault → IsUsedUp self.old }
         ensures spent { IsErrOf result Why.StampsSpent
             ↔ (IsUsedUp self.old × (4294967231 < kept_of self.old)) }
-        ensures spent_still { IsErrOf result Why.StampsSpent
-            → (D.told disk.new).time ≡ (D.told disk.old).time }
+        ensures spent_still { IsErrOf result Why.StampsSpent → disk.new ≡ disk.old }
         ensures calls { CallsWhereDue self.old (D.told disk.old) (D.told disk.new) }
         ensures least { KeepsMarks (D.told disk.old) (D.told disk.new) }
         ensures most { RisesWhereDue self.old (D.told disk.old) (D.told disk.new) }

@@ -67,12 +67,21 @@ KeptBy StampsSpent stood events before entry exit =
 KeptBy DiskFault stood events before entry exit = (events ≡ []) ⊎ IsDue (life_at before)
 KeptBy _ stood events before entry exit = ⊤
 
--- The disk was called at most five times for each block that was reserved in a life. For one more it was called where
--- that block was due, and the run ended before the Tick that asked for it was taken, but not for want of marks.
+-- One block more was begun than the Ticks of a life took: it was due, and the run ended before the Tick that asked for
+-- it was taken, but not for want of marks.
+abbrev pub BeganAnother : Why → Ending → Need → List Told → Type 0
+BeganAnother why ending need life = IsDue life × IsBeforeTick ending need × (why ≢ StampsSpent)
+
+-- the disk was called at most five times for each block that was begun in a life
 abbrev pub CallsForBlocks : Why → Ending → Need → List Told → (start end : ℕ) → Type 0
 CallsForBlocks why ending need life start end =
-    (end ≤ start + 5 * blocks_of life)
-    ⊎ (IsDue life × IsBeforeTick ending need × (why ≢ StampsSpent) × (end ≤ start + 5 * (1 + blocks_of life)))
+    (end ≤ start + 5 * blocks_of life) ⊎ (BeganAnother why ending need life × (end ≤ start + 5 * (1 + blocks_of life)))
+
+-- an image stands for no more than the end of a block that was begun in a life of this mark
+abbrev pub StandsForBlocks : Why → Ending → Need → List Told → (mark : ℕ) → (image : List ℕ) → Type 0
+StandsForBlocks why ending need life mark image =
+    (mark_of_image image ≤ mark + 64 * blocks_of life)
+    ⊎ (BeganAnother why ending need life × (mark_of_image image ≤ mark + 64 * (1 + blocks_of life)))
 
 -- what is needed behind an event, whether what it led to was done or not
 abbrev pub behind_act : Need → Need
@@ -142,13 +151,14 @@ pub record Kept (conf : Conf) {turns : ℕ} {stood : Stood} (w : Woven conf turn
   pub within : w.events ≢ [] → stood.mark + 64 * blocks_of (life_at (told conf (reverse w.events))) < 2 ^ 32
   pub calls : exit.time ≤ entry.time + 4 + 5 * (1 + length (sends_among w.given.link) / 64)
   pub blocks : CallsForBlocks why w.ending w.need (life_at (told conf (reverse w.events))) (entry.time + 4) exit.time
-  -- What a crash at any moment of the run leaves stands for a mark that an image at entry stood for, or for a block more at
-  -- most than the requests fill; and the bytes that belong to no slot are those of an image at entry.
-  pub most : LeavesOnly entry exit (λ image. StandsAsBefore entry image ⊎ (mark_of_image image ≤ stood.mark + 64 * (1 + length (sends_among w.given.link) / 64)))
+  -- What a crash at any moment of the run leaves stands for a mark that an image at entry stood for, or for no more than
+  -- the end of a block that was begun; and the bytes that belong to no slot are those of an image at entry.
+  pub most : LeavesOnly entry exit (λ image. StandsAsBefore entry image
+      ⊎ StandsForBlocks why w.ending w.need (life_at (told conf (reverse w.events))) stood.mark image)
   pub unused : LeavesOnly entry exit (KeepsUnused entry)
   -- where the disk was loaded, what is left stands for no more than that, and can be loaded
   pub loaded : (w.events ≢ []) ⊎ ((why ≢ BadVersion) × (why ≢ DiskFault)) → (image : List ℕ) → exit.may_leave image
-      → IsLoadable image × (mark_of_image image ≤ stood.mark + 64 * (1 + length (sends_among w.given.link) / 64))
+      → IsLoadable image × StandsForBlocks why w.ending w.need (life_at (told conf (reverse w.events))) stood.mark image
   -- the mark at the end
   pub reserved : why ≡ Done → IfSome exit.content (λ c. mark_of_image c ≡ stood.mark + 64 * blocks_of (life_at (told conf (reverse w.events))))
 

@@ -20,7 +20,7 @@ returns-in_err-turn-clause-turns g c =
     (goes_stop c.args.turns c.loop.counter c.args.self.now c.loop.self c.turn.new.self _ _ _ _ _ _ c.in_err-turn.field-0.0 c.loop-test.true c.loop.invariant
     (λ is. c.in_err-turn.ensures.never.0 (ap Err is)) (λ is. c.in_err-turn.ensures.never.1 (ap Err is)) c.in_err-turn.ensures.part c.in_err-turn.ensures.calls
     (λ is. c.in_err-turn.ensures.disk (ap Err is)) (λ is. c.in_err-turn.ensures.spent.0 (ap Err is), λ spent. let same = c.in_err-turn.ensures.spent.1 spent in cc same) c.in_err-turn.ensures.most
-    (λ is. c.in_err-turn.ensures.spent_still (ap Err is)))
+    (λ is. ap g.D.Disk.told (c.in_err-turn.ensures.spent_still (ap Err is))))
 
 pub returns-clause-turns : goal.returns-clause-turns
 returns-clause-turns g c =
