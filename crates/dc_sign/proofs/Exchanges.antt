@@ -13,6 +13,7 @@ use Rattle.edge_traits.specs.declared.link.Receipt.TheVariants as receipt
 use Rattle.edge_traits.specs.declared.link.Tried.{Tried}
 use Rattle.edge_traits.proofs.Clocks.{gave_none}
 use Rattle.edge_traits.proofs.Links.{failed_calls-append, receive_counts, send_counts}
+use Rattle.edge_seen.specs.Seen.{Seen}
 use Rattle.key_book.specs.declared.account.Account.{Account}
 use Rattle.dc_sign.specs.declared.info.ServerInfo.{ServerInfo}
 use Rattle.dc_sign.specs.declared.outcome.Answer.{Answer}
@@ -22,7 +23,6 @@ use Rattle.dc_sign.specs.declared.tally.TurnOutcome.TheVariants as outcome
 use Rattle.dc_sign.specs.Info.{IsLocalInfo}
 use Rattle.dc_sign.specs.Reply.{Answers}
 use Rattle.dc_sign.specs.Sending.{Sends}
-use Rattle.dc_sign.specs.Serving.{Seen}
 use Rattle.dc_sign.specs.Turns.{TakesOne}
 
 -- a receive, and a send behind it

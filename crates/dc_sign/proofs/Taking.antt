@@ -9,6 +9,7 @@ use Rattle.base_specs.proofs.Counting.{fails_more, fails_none}
 use Rattle.base_specs.proofs.Telling.{grew_more, grew_none}
 use Rattle.edge_traits.proofs.Clocks.{gave_more, gave_none}
 use Rattle.edge_traits.proofs.Links.{failed_calls-append}
+use Rattle.edge_seen.specs.Seen.{Seen}
 use Rattle.key_book.specs.declared.account.Account.{Account}
 use Rattle.dc_sign.specs.declared.tally.TurnOutcome.{TurnOutcome}
 use Rattle.dc_sign.specs.declared.tally.ServeEnd.{ServeEnd}
@@ -16,7 +17,7 @@ use Rattle.dc_sign.specs.declared.tally.ServeWhy.{ServeWhy}
 use Rattle.dc_sign.specs.declared.tally.ServeWhy.TheVariants.{Done, ClockFault}
 use Rattle.dc_sign.specs.Counting.{counted}
 use Rattle.dc_sign.specs.Numbers.{numbers_of}
-use Rattle.dc_sign.specs.Serving.{StopsUnread, ServeEndsBy, IsTurn, Seen, Serves, Takes, Turn, link_calls, link_calls_of, outcomes_of, readings_of}
+use Rattle.dc_sign.specs.Serving.{StopsUnread, ServeEndsBy, IsTurn, Serves, Takes, Turn, link_calls, link_calls_of, outcomes_of, readings_of}
 use Rattle.dc_sign.specs.Turns.{HasServed, TakesOne, TakesTurn}
 use Rattle.dc_sign.proofs.Numbering.{numbers_more}
 

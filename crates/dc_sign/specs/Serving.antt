@@ -10,6 +10,7 @@ use Rattle.edge_traits.specs.declared.link.Receipt.{Receipt}
 use Rattle.edge_traits.specs.declared.link.Receipt.TheVariants as receipt
 use Rattle.edge_traits.specs.declared.link.Tried.{Tried}
 use Rattle.edge_traits.specs.declared.sink.Put.{Put}
+use Rattle.edge_seen.specs.Seen.{Seen}
 use Rattle.key_book.specs.declared.account.Account.{Account}
 use Rattle.dc_sign.specs.declared.info.ServerInfo.{ServerInfo}
 use Rattle.dc_sign.specs.declared.outcome.Answer.{Answer}
@@ -24,16 +25,10 @@ use Rattle.dc_sign.specs.Info.{IsLocalInfo}
 use Rattle.dc_sign.specs.Numbers.{numbers_of}
 use Rattle.dc_sign.specs.Reply.{Answers, refusal_of}
 
--- what a link and a clock tell at a moment, and how often their calls have failed
-pub record Seen : Type 0 where
-  pub link : Option (List LinkCall)
-  pub link_faults : ℕ
-  pub clock : Option (List ClockCall)
-  pub clock_faults : ℕ
-
--- these four put together
-abbrev pub seen : Option (List LinkCall) → ℕ → Option (List ClockCall) → ℕ → Seen
-seen link link_faults clock clock_faults = record { link = link; link_faults = link_faults; clock = clock; clock_faults = clock_faults }
+-- what the devices tell where link and clock tell this
+abbrev pub serving : Seen → Option (List LinkCall) → ℕ → Option (List ClockCall) → ℕ → Seen
+serving others link link_faults clock clock_faults =
+    record others { link = link; link_faults = link_faults; clock = clock; clock_faults = clock_faults }
 
 -- ---- One turn
 

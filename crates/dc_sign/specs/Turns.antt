@@ -4,12 +4,13 @@ use Rattle.base_specs.specs.Counts.{FailsTimes}
 use Rattle.base_specs.specs.Told.{Grew}
 use Rattle.edge_traits.specs.Clock.{GaveReadings}
 use Rattle.edge_traits.specs.Link.{failed_calls}
+use Rattle.edge_seen.specs.Seen.{Seen}
 use Rattle.key_book.specs.declared.account.Account.{Account}
 use Rattle.dc_sign.specs.declared.tally.TurnOutcome.{TurnOutcome}
 use Rattle.dc_sign.specs.declared.tally.ServeEnd.{ServeEnd}
 use Rattle.dc_sign.specs.declared.tally.ServeWhy.TheVariants.{Done}
 use Rattle.dc_sign.specs.Numbers.{numbers_of}
-use Rattle.dc_sign.specs.Serving.{IsTurn, Seen, Takes, Turn, link_calls, outcomes_of}
+use Rattle.dc_sign.specs.Serving.{IsTurn, Takes, Turn, link_calls, outcomes_of}
 
 -- this turn was taken
 pub record TakesTurn (accounts : List Account) (turn : Turn) (before now : Seen) : Type 0 where

@@ -4,9 +4,10 @@ ghost use Rattle.base_specs.specs.Counts.{Rose};
 ghost use Rattle.base_specs.specs.Told.{Grew};
 ghost use Rattle.edge_traits.specs.Link.{Send};
 ghost use Rattle.edge_traits.specs.Sink.{PutCounts};
+ghost use Rattle.edge_seen.specs.Seen.{Seen};
 ghost use Rattle.dc_sign.specs.declared.tally.ServeWhy.{ServeWhy};
 ghost use Rattle.dc_sign.specs.Sending.{Sends};
-ghost use Rattle.dc_sign.specs.Serving.{Serves, StopsUnread, seen};
+ghost use Rattle.dc_sign.specs.Serving.{Serves, StopsUnread, serving};
 ghost use Rattle.dc_sign.specs.Turns.{TakesOne};
 
 use crate::tally::TurnOutcome;
@@ -24,9 +25,10 @@ pub fn serve<L: Link, C: Clock, K: Keys>(
     clock: &mut C,
     keys: &K,
 ) -> ServeEnd
-    ensures serves { Serves (K.accounts keys.now) turns
-        (seen (L.told link.old) (L.faults link.old) (C.told clock.old) (C.faults clock.old))
-        (seen (L.told link.new) (L.faults link.new) (C.told clock.new) (C.faults clock.new)) result }
+    // Whatever the devices tell that are not asked.
+    ensures serves { (others : Seen) → Serves (K.accounts keys.now) turns
+        (serving others (L.told link.old) (L.faults link.old) (C.told clock.old) (C.faults clock.old))
+        (serving others (L.told link.new) (L.faults link.new) (C.told clock.new) (C.faults clock.new)) result }
 
     // The clock's fault has its cause, and no other ends a run.
     ensures cause { result.why ≡ ServeWhy.ClockFault
@@ -55,12 +57,12 @@ fn take_turn<L: Link, C: Clock, K: Keys>(
     clock: &mut C,
     keys: &K,
 ) -> Option<TurnOutcome>
-    ensures turn { IfSome result (TakesOne (K.accounts keys.now)
-        (seen (L.told link.old) (L.faults link.old) (C.told clock.old) (C.faults clock.old))
-        (seen (L.told link.new) (L.faults link.new) (C.told clock.new) (C.faults clock.new))) }
-    ensures broken_off { IfNone result (StopsUnread
-        (seen (L.told link.old) (L.faults link.old) (C.told clock.old) (C.faults clock.old))
-        (seen (L.told link.new) (L.faults link.new) (C.told clock.new) (C.faults clock.new))) }
+    ensures turn { IfSome result (λ outcome. (others : Seen) → TakesOne (K.accounts keys.now)
+        (serving others (L.told link.old) (L.faults link.old) (C.told clock.old) (C.faults clock.old))
+        (serving others (L.told link.new) (L.faults link.new) (C.told clock.new) (C.faults clock.new)) outcome) }
+    ensures broken_off { IfNone result ((others : Seen) → StopsUnread
+        (serving others (L.told link.old) (L.faults link.old) (C.told clock.old) (C.faults clock.old))
+        (serving others (L.told link.new) (L.faults link.new) (C.told clock.new) (C.faults clock.new))) }
 {
     match link.recv() {
         Receipt::Got(from, request) => {

@@ -22,7 +22,7 @@ use Rattle.sntp_core.specs.declared.member.Member.{Member}
 use Rattle.replay_run.specs.declared.end.ReplayEnd.{ReplayEnd}
 use Rattle.replay_run.specs.declared.end.ReplayWhy.{ReplayWhy}
 use Rattle.replay_run.specs.declared.end.ReplayWhy.TheVariants as why
-use Rattle.replay_run.specs.Seen.{Seen}
+use Rattle.edge_seen.specs.Seen.{Seen}
 use Rattle.replay_run.specs.Totals.{AreTotals}
 use Rattle.replay_run.specs.Replay.{history_of, ReplayEndsBy, IsBadAt, IsAtEnd, Replays}
 use Rattle.replay_run.specs.Running.{Runs, Closes, counted, why_of, why_of_put}

@@ -21,7 +21,7 @@ use Rattle.time_machine.specs.Report.{report_of, total_line}
 use Rattle.replay_run.specs.declared.end.ReplayEnd.{ReplayEnd}
 use Rattle.replay_run.specs.declared.end.ReplayWhy.{ReplayWhy}
 use Rattle.replay_run.specs.declared.end.ReplayWhy.TheVariants as why
-use Rattle.replay_run.specs.Seen.{Seen}
+use Rattle.edge_seen.specs.Seen.{Seen}
 use Rattle.replay_run.specs.Totals.{AreTotals}
 use Rattle.replay_run.specs.Replay.{history_of, IsRefused, IsDone, ShowsFault, ReplayEndsBy, Replays, ReportsAll}
 use Rattle.replay_run.specs.Judged.{IsBadRecord, EndsAt, ReplaysTo, SpellsGrowing}

@@ -20,7 +20,7 @@ use Rattle.time_machine.proofs.Gathers.{more_leads, none_leads}
 use Rattle.sntp_core.specs.declared.member.Member.{Member}
 use Rattle.sntp_core.specs.Standing.{conf_of, StandsForHistory}
 use Rattle.replay_run.specs.declared.end.ReplayEnd.{ReplayEnd}
-use Rattle.replay_run.specs.Seen.{Seen}
+use Rattle.edge_seen.specs.Seen.{Seen}
 use Rattle.replay_run.specs.Totals.{AreTotals}
 use Rattle.replay_run.specs.Replay.{history_of}
 use Rattle.replay_run.specs.Running.{Runs, counted, FitsNumbers}

@@ -1,4 +1,3 @@
-pub mod Seen
 pub mod Totals
 pub mod Replay
 pub mod Judged

@@ -17,8 +17,13 @@ use Rattle.time_machine.specs.Growing.{Grows}
 use Rattle.replay_run.specs.declared.end.ReplayEnd.{ReplayEnd}
 use Rattle.replay_run.specs.declared.end.ReplayWhy.{ReplayWhy}
 use Rattle.replay_run.specs.declared.end.ReplayWhy.TheVariants.{Done, BadCapture, ReadFault, WriteFault}
-use Rattle.replay_run.specs.Seen.{Seen}
+use Rattle.edge_seen.specs.Seen.{Seen}
 use Rattle.replay_run.specs.Totals.{AreTotals}
+
+-- what the devices tell where source and sink tell this
+abbrev pub replaying : Seen → Option (List ℕ) → ℕ → Option (List ℕ) → ℕ → Seen
+replaying others left read_faults written write_faults =
+    record others { left = left; read_faults = read_faults; written = written; write_faults = write_faults }
 
 -- the events of a capture as a history, of which the last event stands first
 abbrev pub history_of : List Event → History

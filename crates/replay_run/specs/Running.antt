@@ -17,7 +17,7 @@ use Rattle.sntp_core.specs.Standing.{conf_of, StandsForHistory}
 use Rattle.replay_run.specs.declared.end.ReplayEnd.{ReplayEnd}
 use Rattle.replay_run.specs.declared.end.ReplayWhy.{ReplayWhy}
 use Rattle.replay_run.specs.declared.end.ReplayWhy.TheVariants as why
-use Rattle.replay_run.specs.Seen.{Seen}
+use Rattle.edge_seen.specs.Seen.{Seen}
 use Rattle.replay_run.specs.Totals.{AreTotals}
 use Rattle.replay_run.specs.Replay.{history_of}
 

@@ -11,8 +11,8 @@
 //! is done where no device fails, and then the report of that history was written. [`laws_of_replays`] says that bytes
 //! decide one answer at most, and which bytes decide for Done.
 //!
-//! `specs/Totals.antt` has what is counted, and `specs/Seen.antt` what source and sink tell. `specs/Running.antt`
-//! belongs to the private part.
+//! `specs/Totals.antt` has what is counted, and `specs/Running.antt` belongs to the private part. What source and sink
+//! tell is in `edge_seen`.
 #![tactic(auto)]
 
 mod end;

@@ -7,8 +7,8 @@ ghost use Rattle.capture_fmt.specs.declared.event.Event.{Event};
 ghost use Rattle.capture_fmt.specs.Capture.{SpellsEvents, place_limit};
 ghost use Rattle.time_machine.specs.Growing.{Grows};
 ghost use Rattle.replay_run.specs.declared.end.ReplayWhy.{ReplayWhy};
-ghost use Rattle.replay_run.specs.Seen.{seen};
-ghost use Rattle.replay_run.specs.Replay.{Replays, ReportsAll, history_of};
+ghost use Rattle.edge_seen.specs.Seen.{Seen};
+ghost use Rattle.replay_run.specs.Replay.{Replays, ReportsAll, history_of, replaying};
 ghost use Rattle.replay_run.specs.Judged.{ReplaysTo};
 ghost use Rattle.replay_run.specs.Running.{Closes};
 
@@ -27,9 +27,10 @@ use sntp_core::{Conf, Member, line_of, total_line};
 /// those before it: the first event is a Life, a Life's mark is at least every count sent before, and where the counts
 /// are used up no Tick or Resync comes. And it ends at a read or a write that failed, after which it makes no other.
 pub fn replay<S: Source, O: Sink>(conf: Conf, source: &mut S, sink: &mut O) -> ReplayEnd
-    ensures replays { Replays conf
-        (seen (S.left source.old) (S.faults source.old) (O.written sink.old) (O.faults sink.old))
-        (seen (S.left source.new) (S.faults source.new) (O.written sink.new) (O.faults sink.new))
+    // Whatever the devices tell that are not asked.
+    ensures replays { (others : Seen) → Replays conf
+        (replaying others (S.left source.old) (S.faults source.old) (O.written sink.old) (O.faults sink.old))
+        (replaying others (S.left source.new) (S.faults source.new) (O.written sink.new) (O.faults sink.new))
         result }
 
     // Where the source tells its bytes they decide, unless a read or a write fails. Where they spell a history that
@@ -63,9 +64,9 @@ pub fn replay<S: Source, O: Sink>(conf: Conf, source: &mut S, sink: &mut O) -> R
 
 /// The work of [`replay`], by `Replays` alone: the other clauses of that call follow from it.
 fn step_through<S: Source, O: Sink>(conf: Conf, source: &mut S, sink: &mut O) -> ReplayEnd
-    ensures { Replays conf
-        (seen (S.left source.old) (S.faults source.old) (O.written sink.old) (O.faults sink.old))
-        (seen (S.left source.new) (S.faults source.new) (O.written sink.new) (O.faults sink.new))
+    ensures { (others : Seen) → Replays conf
+        (replaying others (S.left source.old) (S.faults source.old) (O.written sink.old) (O.faults sink.old))
+        (replaying others (S.left source.new) (S.faults source.new) (O.written sink.new) (O.faults sink.new))
         result }
 {
     let mut reader = EventReader::new();
