@@ -18,13 +18,14 @@ use Rattle.ntp_wire.specs.declared.stamp.Stamp.{Stamp}
 use Rattle.monitor_run.specs.declared.asking.Heard.{Heard}
 use Rattle.monitor_run.specs.declared.why.MonitorWhy.{MonitorWhy}
 use Rattle.monitor_run.specs.declared.why.MonitorWhy.TheVariants.{ClockFault}
-use Rattle.monitor_run.specs.Asking.{Devices, Did, no_deed, readings_heard, receipt_heard, request_sent, words_of}
+use Rattle.edge_seen.specs.Seen.{Seen}
+use Rattle.monitor_run.specs.Asking.{Did, no_deed, readings_heard, receipt_heard, request_sent, words_of}
 use Rattle.monitor_run.specs.Progress.{Asks, DrawsFewer, Hears, HearsUnread, StopsShort}
 
 -- ---- One computer
 
 -- the request was sent and a receipt was taken
-did_ask : (to : Addr) (at : ℤ) (stamp : Stamp) (put : Put) (readings : List ℤ) (given : Receipt) (before now : Devices) (link : Option (List LinkCall)) (faults : ℕ) (clock : Option (List ClockCall))
+did_ask : (to : Addr) (at : ℤ) (stamp : Stamp) (put : Put) (readings : List ℤ) (given : Receipt) (before now : Seen) (link : Option (List LinkCall)) (faults : ℕ) (clock : Option (List ClockCall))
     → GaveReadings before.clock clock (at ∷ []) → Added before.words now.words (words_of stamp)
     → Grew before.link link (Send (request_sent to stamp put) ∷ []) → PutCounts put before.link_faults faults
     → Grew link now.link (Receive given ∷ []) → ReceiptCounts given faults now.link_faults → GaveReadings clock now.clock readings
@@ -38,7 +39,7 @@ did_ask to at stamp put readings given before now link faults clock first drew t
       (send_counts (request_sent to stamp put) before.link_faults faults sent) (receive_counts given faults now.link_faults received));
 }
 
-pub asked : (to : Addr) (at : ℤ) (stamp : Stamp) (put : Put) (heard : Heard) (before now : Devices) (link : Option (List LinkCall)) (faults : ℕ) (clock : Option (List ClockCall))
+pub asked : (to : Addr) (at : ℤ) (stamp : Stamp) (put : Put) (heard : Heard) (before now : Seen) (link : Option (List LinkCall)) (faults : ℕ) (clock : Option (List ClockCall))
     → IsReading at → GaveReadings before.clock clock (at ∷ []) → Added before.words now.words (words_of stamp) → now.entropy_faults ≡ before.entropy_faults
     → Grew before.link link (Send (request_sent to stamp put) ∷ []) → PutCounts put before.link_faults faults
     → Hears heard link now.link faults now.link_faults clock now.clock before.clock_faults now.clock_faults
@@ -52,7 +53,7 @@ asked to at stamp put heard before now link faults clock reading first drew no_f
 }
 
 -- the first reading failed
-pub unread : (to : Addr) (before : Devices) (clock : Option (List ClockCall)) (faults : ℕ) → clock ≡ before.clock → Fails before.clock_faults faults
+pub unread : (to : Addr) (before : Seen) (clock : Option (List ClockCall)) (faults : ℕ) → clock ≡ before.clock → Fails before.clock_faults faults
     → StopsShort to before (record before { clock = clock; clock_faults = faults }) ClockFault
 unread to before clock faults same failed = record {
   deed = no_deed;
@@ -68,7 +69,7 @@ unread to before clock faults same failed = record {
 }
 
 -- a word was not given
-pub undrawn : (to : Addr) (why : MonitorWhy) (at : ℤ) (before now : Devices)
+pub undrawn : (to : Addr) (why : MonitorWhy) (at : ℤ) (before now : Seen)
     → GaveReadings before.clock now.clock (at ∷ []) → now.clock_faults ≡ before.clock_faults → now.link ≡ before.link → now.link_faults ≡ before.link_faults
     → DrawsFewer why before.words now.words before.entropy_faults now.entropy_faults → StopsShort to before now why
 undrawn to why at before now read no_clock_fault link link_faults draws =
@@ -87,7 +88,7 @@ undrawn to why at before now read no_clock_fault link link_faults draws =
     })
 
 -- a datagram came, and the reading behind it failed
-pub unheard : (to : Addr) (why : MonitorWhy) (at : ℤ) (stamp : Stamp) (put : Put) (before now : Devices) (link : Option (List LinkCall)) (faults : ℕ) (clock : Option (List ClockCall))
+pub unheard : (to : Addr) (why : MonitorWhy) (at : ℤ) (stamp : Stamp) (put : Put) (before now : Seen) (link : Option (List LinkCall)) (faults : ℕ) (clock : Option (List ClockCall))
     → GaveReadings before.clock clock (at ∷ []) → Added before.words now.words (words_of stamp) → now.entropy_faults ≡ before.entropy_faults
     → Grew before.link link (Send (request_sent to stamp put) ∷ []) → PutCounts put before.link_faults faults
     → HearsUnread why link now.link faults now.link_faults clock now.clock before.clock_faults now.clock_faults

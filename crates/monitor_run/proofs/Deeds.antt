@@ -1,5 +1,5 @@
 -- What was done one after the other.
-use Rattle.std.proofs.Common.{◌≡◌, ℕ, List, [], ◌∷◌, ◌++◌, sym, ◌∙◌, ap, subst}
+use Rattle.std.proofs.Common.{◌≡◌, ℕ, List, [], ◌∷◌, ◌++◌, Option, sym, ◌∙◌, ap, subst}
 use Rattle.std.specs.List.{flat_map}
 use Rattle.std.proofs.lemmas.Grind.{flat_map-append}
 use Rattle.std.proofs.lemmas.List.{append-nil}
@@ -8,10 +8,11 @@ use Rattle.base_specs.proofs.Counting.{fails_more, fails_none}
 use Rattle.base_specs.proofs.Telling.{added_more, added_none, grew_more, grew_none}
 use Rattle.edge_traits.proofs.Clocks.{gave_more, gave_none}
 use Rattle.edge_traits.proofs.Links.{failed_calls-append}
-use Rattle.monitor_run.specs.Asking.{Asked, Deed, Devices, Did, deed_of, deeds_of, no_deed, then}
+use Rattle.edge_seen.specs.Seen.{Seen}
+use Rattle.monitor_run.specs.Asking.{Asked, Deed, Did, deed_of, deeds_of, no_deed, then}
 
 -- nothing was done
-pub did_nothing : (now : Devices) → Did no_deed now now
+pub did_nothing : (now : Seen) → Did no_deed now now
 did_nothing now = record {
   told = grew_none now.link;
   read = gave_none now.clock;
@@ -19,8 +20,13 @@ did_nothing now = record {
   link_failed = fails_none now.link_faults;
 }
 
+-- a write is none of the deeds
+pub did_beside : (deed : Deed) (before now : Seen) (written : Option (List ℕ)) (write_faults : ℕ) → Did deed before now
+    → Did deed before (record now { written = written; write_faults = write_faults })
+did_beside deed before now written write_faults did = record { told = did.told; read = did.read; drew = did.drew; link_failed = did.link_failed }
+
 -- one deed behind another
-pub did_more : (first next : Deed) (before mid now : Devices) → Did first before mid → Did next mid now → Did (then first next) before now
+pub did_more : (first next : Deed) (before mid now : Seen) → Did first before mid → Did next mid now → Did (then first next) before now
 did_more first next before mid now one other =
     let Failed : ℕ → Type 0 = λ (n : ℕ). FailsTimes n before.link_faults now.link_faults in
     record {

@@ -12,15 +12,16 @@ use Rattle.edge_traits.specs.Sink.{Writes}
 use Rattle.edge_traits.specs.declared.sink.Put.TheVariants as write
 use Rattle.partner_pick.specs.declared.entry.Entry.{Entry}
 use Rattle.line_text.specs.Text.{joined}
+use Rattle.edge_seen.specs.Seen.{Seen}
 use Rattle.monitor_run.specs.declared.finding.Finding.{Finding}
 use Rattle.monitor_run.specs.declared.why.MonitorWhy.{MonitorWhy}
 use Rattle.monitor_run.specs.declared.why.MonitorWhy.TheVariants.{Done, ClockFault, EntropyFault, WriteFault}
 use Rattle.monitor_run.specs.Asking.{Asked, Deed, Did, answered_of, deed_of, deeds_of, entries_of, finding_at, lines_of, no_deed}
 use Rattle.monitor_run.specs.Ending.{FailsIf, MonitorEndsBy, StopsAt, is_clock_fault, is_entropy_fault, is_write_fault}
 use Rattle.monitor_run.specs.Lines.{computers_line, is_answered, line_of}
-use Rattle.monitor_run.specs.Monitoring.{Monitors, Seen}
+use Rattle.monitor_run.specs.Monitoring.{Monitors}
 use Rattle.monitor_run.specs.Progress.{FailsToWrite, HasAsked, Reports, Stops}
-use Rattle.monitor_run.proofs.Deeds.{deeds_more, did_more, did_nothing}
+use Rattle.monitor_run.proofs.Deeds.{deeds_more, did_beside, did_more, did_nothing}
 
 -- ---- One entry more
 
@@ -29,7 +30,7 @@ asked_none now = record {
   asked = [];
   are = refl;
   counted = refl;
-  did = did_nothing now.devices;
+  did = did_nothing now;
   wrote = added_none now.written;
   no_clock_fault = refl;
   no_entropy_fault = refl;
@@ -56,15 +57,15 @@ asked_more front entry before mid now answered finding has reports =
     let entries : entries_of (has.asked ++ one ∷ []) ≡ front ++ entry ∷ [] =
     map-append (λ (a : Asked). a.entry) has.asked (one ∷ []) ∙ (λ i. (sym has.are) i ++ reports.of_entry i ∷ []) in
     let Text : List ℕ → Type 0 = λ (l : List ℕ). Added before.written now.written l in
-    let deed : Did (deed_of one.entry.addr one.ask) mid.devices now.devices =
-    subst (λ (e : Entry). Did (deed_of e.addr one.ask) mid.devices now.devices) (sym reports.of_entry) reports.did in
+    let deed : Did (deed_of one.entry.addr one.ask) mid now =
+    subst (λ (e : Entry). Did (deed_of e.addr one.ask) mid now) (sym reports.of_entry) reports.did in
     let line : line_of entry.name finding ≡ line_of one.entry.name (finding_at one) = λ i. line_of ((sym reports.of_entry) i).name (reports.found i) in
     record {
       asked = has.asked ++ one ∷ [];
       are = sym entries;
       counted = (λ i. more (reports.found i) (has.counted i)) ∙ sym (answered_more has.asked one);
-      did = subst (λ (d : Deed). Did d before.devices now.devices) (deeds_more has.asked one)
-          (did_more (deeds_of has.asked) (deed_of one.entry.addr one.ask) before.devices mid.devices now.devices has.did deed);
+      did = subst (λ (d : Deed). Did d before now) (deeds_more has.asked one)
+          (did_more (deeds_of has.asked) (deed_of one.entry.addr one.ask) before mid now has.did deed);
       wrote = subst Text (ap (λ (l : List ℕ). joined (lines_of has.asked) ++ l) line ∙ lines_more has.asked one)
           (added_more before.written mid.written now.written (joined (lines_of has.asked)) (line_of entry.name finding) has.wrote reports.wrote);
       no_clock_fault = reports.no_clock_fault ∙ has.no_clock_fault;
@@ -111,10 +112,10 @@ stopped entries place entry before mid now answered why at has stops =
       text = stops.text;
       are = cut ∙ ap (λ (l : List Entry). l ++ (entry ∷ later)) has.are;
       ends = ends_there why has.asked entry later stops.deed stops.text stops.stops;
-      did = did_more (deeds_of has.asked) stops.deed before.devices mid.devices now.devices has.did stops.did;
+      did = did_more (deeds_of has.asked) stops.deed before mid now has.did stops.did;
       wrote = added_more before.written mid.written now.written (joined (lines_of has.asked)) stops.text has.wrote stops.wrote;
-      clock_count = still (is_clock_fault why) before.devices.clock_faults mid.devices.clock_faults now.devices.clock_faults has.no_clock_fault stops.clock_count;
-      entropy_count = still (is_entropy_fault why) before.devices.entropy_faults mid.devices.entropy_faults now.devices.entropy_faults has.no_entropy_fault stops.entropy_count;
+      clock_count = still (is_clock_fault why) before.clock_faults mid.clock_faults now.clock_faults has.no_clock_fault stops.clock_count;
+      entropy_count = still (is_entropy_fault why) before.entropy_faults mid.entropy_faults now.entropy_faults has.no_entropy_fault stops.entropy_count;
       write_count = still (is_write_fault why) before.write_faults mid.write_faults now.write_faults has.no_write_fault stops.write_count;
     }
 
@@ -141,7 +142,7 @@ closed entries before mid written write_faults answered line has is wrote no_fau
   text = line;
   are = whole entries has.asked has.are;
   ends = record { none = refl; did = refl; written = is ∙ total_is entries has.asked answered has.are has.counted };
-  did = did_more (deeds_of has.asked) no_deed before.devices mid.devices mid.devices has.did (did_nothing mid.devices);
+  did = did_beside _ before mid written write_faults (did_more (deeds_of has.asked) no_deed before mid mid has.did (did_nothing mid));
   wrote = added_more before.written mid.written written (joined (lines_of has.asked)) line has.wrote wrote;
   clock_count = has.no_clock_fault;
   entropy_count = has.no_entropy_fault;
@@ -164,7 +165,7 @@ broke_off_total entries before mid written write_faults answered line why has is
       text = take wrote.0 total;
       are = whole entries has.asked has.are;
       ends = inr (record { none = refl; did = refl; front = wrote.0; most = wrote.1; written = refl });
-      did = did_more (deeds_of has.asked) no_deed before.devices mid.devices mid.devices has.did (did_nothing mid.devices);
+      did = did_beside _ before mid written write_faults (did_more (deeds_of has.asked) no_deed before mid mid has.did (did_nothing mid));
       wrote = added_more before.written mid.written written (joined (lines_of has.asked)) (take wrote.0 total) has.wrote wrote.2;
       clock_count = has.no_clock_fault;
       entropy_count = has.no_entropy_fault;
@@ -182,11 +183,11 @@ fails_later true before now fails = fails.later
 fails_later false before now fails = omega (arith, fails)
 
 pub clock_rose : (entries : List Entry) (before now : Seen) (why : MonitorWhy) → Monitors entries before now why → why ≡ ClockFault
-    → Rose before.devices.clock_faults now.devices.clock_faults
+    → Rose before.clock_faults now.clock_faults
 clock_rose entries before now why run is = fails_rose (is_clock_fault why) _ _ run.clock_count (ap is_clock_fault is)
 
 pub entropy_rose : (entries : List Entry) (before now : Seen) (why : MonitorWhy) → Monitors entries before now why → why ≡ EntropyFault
-    → Rose before.devices.entropy_faults now.devices.entropy_faults
+    → Rose before.entropy_faults now.entropy_faults
 entropy_rose entries before now why run is = fails_rose (is_entropy_fault why) _ _ run.entropy_count (ap is_entropy_fault is)
 
 pub write_rose : (entries : List Entry) (before now : Seen) (why : MonitorWhy) → Monitors entries before now why → why ≡ WriteFault
@@ -201,20 +202,20 @@ one_of_four WriteFault clock entropy write = absurd (write refl)
 
 -- a run ends before its last line only where a call failed
 pub complete : (entries : List Entry) (before now : Seen) (why : MonitorWhy) → Monitors entries before now why
-    → ¬ Rose before.devices.clock_faults now.devices.clock_faults → ¬ Rose before.devices.entropy_faults now.devices.entropy_faults
+    → ¬ Rose before.clock_faults now.clock_faults → ¬ Rose before.entropy_faults now.entropy_faults
     → ¬ Rose before.write_faults now.write_faults → why ≡ Done
 complete entries before now why run clock entropy written =
     one_of_four why (λ is. clock (clock_rose entries before now why run is)) (λ is. entropy (entropy_rose entries before now why run is))
     (λ is. written (write_rose entries before now why run is))
 
 -- no count falls
-pub link_later : (entries : List Entry) (before now : Seen) (why : MonitorWhy) → Monitors entries before now why → before.devices.link_faults ≤ now.devices.link_faults
+pub link_later : (entries : List Entry) (before now : Seen) (why : MonitorWhy) → Monitors entries before now why → before.link_faults ≤ now.link_faults
 link_later entries before now why run = run.did.link_failed.later
 
-pub clock_later : (entries : List Entry) (before now : Seen) (why : MonitorWhy) → Monitors entries before now why → before.devices.clock_faults ≤ now.devices.clock_faults
+pub clock_later : (entries : List Entry) (before now : Seen) (why : MonitorWhy) → Monitors entries before now why → before.clock_faults ≤ now.clock_faults
 clock_later entries before now why run = fails_later (is_clock_fault why) _ _ run.clock_count
 
-pub entropy_later : (entries : List Entry) (before now : Seen) (why : MonitorWhy) → Monitors entries before now why → before.devices.entropy_faults ≤ now.devices.entropy_faults
+pub entropy_later : (entries : List Entry) (before now : Seen) (why : MonitorWhy) → Monitors entries before now why → before.entropy_faults ≤ now.entropy_faults
 entropy_later entries before now why run = fails_later (is_entropy_fault why) _ _ run.entropy_count
 
 pub write_later : (entries : List Entry) (before now : Seen) (why : MonitorWhy) → Monitors entries before now why → before.write_faults ≤ now.write_faults

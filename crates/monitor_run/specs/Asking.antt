@@ -10,6 +10,7 @@ use Rattle.edge_traits.specs.declared.link.Receipt.{Receipt}
 use Rattle.edge_traits.specs.declared.link.Receipt.TheVariants as receipt
 use Rattle.edge_traits.specs.declared.link.Tried.{Tried}
 use Rattle.edge_traits.specs.declared.sink.Put.{Put}
+use Rattle.edge_seen.specs.Seen.{Seen}
 use Rattle.ntp_wire.specs.declared.stamp.Stamp.{Stamp}
 use Rattle.partner_pick.specs.declared.entry.Entry.{Entry}
 use Rattle.monitor_run.specs.declared.asking.Ask.{Ask}
@@ -24,18 +25,9 @@ use Rattle.monitor_run.specs.Request.{plain_request}
 
 -- ---- What three devices did
 
--- what a link, a clock and a source of words tell at a moment, and how often their calls have failed
-pub record Devices : Type 0 where
-  pub link : Option (List LinkCall)
-  pub link_faults : ℕ
-  pub clock : Option (List ClockCall)
-  pub clock_faults : ℕ
-  pub words : Option (List ℕ)
-  pub entropy_faults : ℕ
-
--- the same, from its parts
-abbrev pub devices : Option (List LinkCall) → ℕ → Option (List ClockCall) → ℕ → Option (List ℕ) → ℕ → Devices
-devices link link_faults clock clock_faults words entropy_faults = record {
+-- what the devices tell where link, clock and entropy tell this
+abbrev pub asking : Seen → Option (List LinkCall) → ℕ → Option (List ClockCall) → ℕ → Option (List ℕ) → ℕ → Seen
+asking others link link_faults clock clock_faults words entropy_faults = record others {
   link = link;
   link_faults = link_faults;
   clock = clock;
@@ -64,7 +56,7 @@ then first next = record {
 
 -- This is all that the devices gave and took. The clock was not corrected, and the link failed as often as its calls
 -- say.
-pub record Did (deed : Deed) (before now : Devices) : Type 0 where
+pub record Did (deed : Deed) (before now : Seen) : Type 0 where
   pub told : Grew before.link now.link deed.link
   pub read : GaveReadings before.clock now.clock deed.readings
   pub drew : Added before.words now.words deed.words

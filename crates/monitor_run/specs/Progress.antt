@@ -9,6 +9,7 @@ use Rattle.edge_traits.specs.Sink.{Writes}
 use Rattle.edge_traits.specs.declared.datagram.Addr.{Addr}
 use Rattle.edge_traits.specs.declared.link.Receipt.TheVariants as receipt
 use Rattle.edge_traits.specs.declared.sink.Put.TheVariants as write
+use Rattle.edge_seen.specs.Seen.{Seen}
 use Rattle.partner_pick.specs.declared.entry.Entry.{Entry}
 use Rattle.line_text.specs.Text.{joined}
 use Rattle.monitor_run.specs.declared.asking.Ask.{Ask}
@@ -17,10 +18,9 @@ use Rattle.monitor_run.specs.declared.asking.Heard.TheVariants.{Came, Quiet, Los
 use Rattle.monitor_run.specs.declared.finding.Finding.{Finding}
 use Rattle.monitor_run.specs.declared.why.MonitorWhy.{MonitorWhy}
 use Rattle.monitor_run.specs.declared.why.MonitorWhy.TheVariants.{ClockFault, EntropyFault, WriteFault}
-use Rattle.monitor_run.specs.Asking.{Asked, Deed, Devices, Did, answered_of, deed_of, deeds_of, entries_of, finding_at, lines_of, readings_heard, receipt_heard}
+use Rattle.monitor_run.specs.Asking.{Asked, Deed, Did, answered_of, deed_of, deeds_of, entries_of, finding_at, lines_of, readings_heard, receipt_heard}
 use Rattle.monitor_run.specs.Ending.{FailsIf, StopsAsking, StopsAt, is_clock_fault, is_entropy_fault, is_write_fault}
 use Rattle.monitor_run.specs.Lines.{line_of}
-use Rattle.monitor_run.specs.Monitoring.{Seen}
 
 -- ---- One entry
 
@@ -57,7 +57,7 @@ pub record DrawsFewer (why : MonitorWhy) (old new : Option (List ℕ)) (before n
   pub failed : Fails before now
 
 -- the computer at this address was asked, and this came of it; no call failed but those of the link
-pub record Asks (to : Addr) (before now : Devices) (ask : Ask) : Type 0 where
+pub record Asks (to : Addr) (before now : Seen) (ask : Ask) : Type 0 where
   pub reading : IsReading ask.at
   pub fits : HeardFits ask.heard
   pub did : Did (deed_of to ask) before now
@@ -65,7 +65,7 @@ pub record Asks (to : Addr) (before now : Devices) (ask : Ask) : Type 0 where
   pub no_entropy_fault : now.entropy_faults ≡ before.entropy_faults
 
 -- asking was cut short by a call of clock or entropy that failed
-pub record StopsShort (to : Addr) (before now : Devices) (why : MonitorWhy) : Type 0 where
+pub record StopsShort (to : Addr) (before now : Seen) (why : MonitorWhy) : Type 0 where
   pub deed : Deed
   pub stops : StopsAsking why to deed
   pub did : Did deed before now
@@ -83,10 +83,10 @@ pub record Reports (entry : Entry) (before now : Seen) (finding : Finding) : Typ
   pub asked : Asked
   pub of_entry : asked.entry ≡ entry
   pub found : finding ≡ finding_at asked
-  pub did : Did (deed_of entry.addr asked.ask) before.devices now.devices
+  pub did : Did (deed_of entry.addr asked.ask) before now
   pub wrote : Added before.written now.written (line_of entry.name finding)
-  pub no_clock_fault : now.devices.clock_faults ≡ before.devices.clock_faults
-  pub no_entropy_fault : now.devices.entropy_faults ≡ before.devices.entropy_faults
+  pub no_clock_fault : now.clock_faults ≡ before.clock_faults
+  pub no_entropy_fault : now.entropy_faults ≡ before.entropy_faults
   pub no_write_fault : now.write_faults ≡ before.write_faults
 
 -- a run stopped at an entry
@@ -94,10 +94,10 @@ pub record Stops (entry : Entry) (before now : Seen) (why : MonitorWhy) : Type 0
   pub deed : Deed
   pub text : List ℕ
   pub stops : StopsAt why entry deed text
-  pub did : Did deed before.devices now.devices
+  pub did : Did deed before now
   pub wrote : Added before.written now.written text
-  pub clock_count : FailsIf (is_clock_fault why) before.devices.clock_faults now.devices.clock_faults
-  pub entropy_count : FailsIf (is_entropy_fault why) before.devices.entropy_faults now.devices.entropy_faults
+  pub clock_count : FailsIf (is_clock_fault why) before.clock_faults now.clock_faults
+  pub entropy_count : FailsIf (is_entropy_fault why) before.entropy_faults now.entropy_faults
   pub write_count : FailsIf (is_write_fault why) before.write_faults now.write_faults
 
 -- ---- The entries in front
@@ -107,8 +107,8 @@ pub record HasAsked (front : List Entry) (before now : Seen) (answered : ℕ) : 
   pub asked : List Asked
   pub are : front ≡ entries_of asked
   pub counted : answered ≡ answered_of asked
-  pub did : Did (deeds_of asked) before.devices now.devices
+  pub did : Did (deeds_of asked) before now
   pub wrote : Added before.written now.written (joined (lines_of asked))
-  pub no_clock_fault : now.devices.clock_faults ≡ before.devices.clock_faults
-  pub no_entropy_fault : now.devices.entropy_faults ≡ before.devices.entropy_faults
+  pub no_clock_fault : now.clock_faults ≡ before.clock_faults
+  pub no_entropy_fault : now.entropy_faults ≡ before.entropy_faults
   pub no_write_fault : now.write_faults ≡ before.write_faults

@@ -1,7 +1,8 @@
 //! Asking a computer.
 ghost use Rattle.std.specs.Prelude.{◌≡◌, IfErr, IfOk, OnOk};
 ghost use Rattle.base_specs.specs.Told.{Added};
-ghost use Rattle.monitor_run.specs.Asking.{devices, words_of};
+ghost use Rattle.edge_seen.specs.Seen.{Seen};
+ghost use Rattle.monitor_run.specs.Asking.{asking, words_of};
 ghost use Rattle.monitor_run.specs.Progress.{Asks, DrawsFewer, Hears, HearsUnread, StopsShort};
 
 use crate::MonitorWhy;
@@ -41,16 +42,16 @@ pub(crate) fn ask_computer<L: Link, C: Clock, E: Entropy>(
     clock: &mut C,
     entropy: &mut E,
 ) -> Result<Ask, MonitorWhy>
-    ensures asked { IfOk result (Asks to
-        (devices (L.told link.old) (L.faults link.old) (C.told clock.old) (C.faults clock.old)
+    ensures asked { IfOk result (λ ask. (others : Seen) → Asks to
+        (asking others (L.told link.old) (L.faults link.old) (C.told clock.old) (C.faults clock.old)
         (E.words entropy.old) (E.faults entropy.old))
-        (devices (L.told link.new) (L.faults link.new) (C.told clock.new) (C.faults clock.new)
-        (E.words entropy.new) (E.faults entropy.new))) }
-    ensures cut_short { IfErr result (StopsShort to
-        (devices (L.told link.old) (L.faults link.old) (C.told clock.old) (C.faults clock.old)
+        (asking others (L.told link.new) (L.faults link.new) (C.told clock.new) (C.faults clock.new)
+        (E.words entropy.new) (E.faults entropy.new)) ask) }
+    ensures cut_short { IfErr result (λ why. (others : Seen) → StopsShort to
+        (asking others (L.told link.old) (L.faults link.old) (C.told clock.old) (C.faults clock.old)
         (E.words entropy.old) (E.faults entropy.old))
-        (devices (L.told link.new) (L.faults link.new) (C.told clock.new) (C.faults clock.new)
-        (E.words entropy.new) (E.faults entropy.new))) }
+        (asking others (L.told link.new) (L.faults link.new) (C.told clock.new) (C.faults clock.new)
+        (E.words entropy.new) (E.faults entropy.new)) why) }
 {
     let Reading::At(at) = clock.now() else {
         return Err(MonitorWhy::ClockFault);

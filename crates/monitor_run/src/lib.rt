@@ -5,8 +5,8 @@
 //!
 //! The crate stands on `partner_pick`, which keeps the directory, on `ntp_wire` and `ms_auth` for the bytes, on
 //! `time_machine` for what a member says of the four times and of a sender, on `line_text` for the lines, and on the
-//! traits of `edge_traits`. The layer above may rely on `Monitors` in `specs/Monitoring.antt`, which says of each end
-//! of a run what link, clock, entropy and sink gave and took.
+//! traits of `edge_traits`, with `edge_seen` for what these tell. The layer above may rely on `Monitors` in
+//! `specs/Monitoring.antt`, which says of each end of a run what link, clock, entropy and sink gave and took.
 //!
 //! `specs/Finding.antt` has the words in their order, each by the answer's bytes, `specs/Request.antt` the request,
 //! `specs/Lines.antt` the lines, `specs/Asking.antt` what is done for one computer, and `specs/Ending.antt` how a run

@@ -2,9 +2,9 @@
 ghost use Rattle.std.specs.Prelude.{◌≡◌, ◌<◌, ◌≤◌, length, IfErr, IfOk, OnOk};
 ghost use Rattle.base_specs.specs.Counts.{Rose};
 ghost use Rattle.base_specs.specs.Told.{Added};
+ghost use Rattle.edge_seen.specs.Seen.{Seen};
 ghost use Rattle.monitor_run.specs.declared.why.MonitorWhy.{MonitorWhy};
-ghost use Rattle.monitor_run.specs.Asking.{devices};
-ghost use Rattle.monitor_run.specs.Monitoring.{Monitors, seen};
+ghost use Rattle.monitor_run.specs.Monitoring.{Monitors, monitoring};
 ghost use Rattle.monitor_run.specs.Progress.{FailsToWrite, Reports, Stops};
 
 use crate::MonitorWhy;
@@ -33,11 +33,12 @@ pub fn monitor<L: Link, C: Clock, E: Entropy, O: Sink>(
     entropy: &mut E,
     out: &mut O,
 ) -> MonitorWhy
-    ensures monitors { Monitors directory.now
-        (seen (devices (L.told link.old) (L.faults link.old) (C.told clock.old) (C.faults clock.old)
-        (E.words entropy.old) (E.faults entropy.old)) (O.written out.old) (O.faults out.old))
-        (seen (devices (L.told link.new) (L.faults link.new) (C.told clock.new) (C.faults clock.new)
-        (E.words entropy.new) (E.faults entropy.new)) (O.written out.new) (O.faults out.new))
+    // Whatever the devices tell that are not asked.
+    ensures monitors { (others : Seen) → Monitors directory.now
+        (monitoring others (L.told link.old) (L.faults link.old) (C.told clock.old) (C.faults clock.old)
+        (E.words entropy.old) (E.faults entropy.old) (O.written out.old) (O.faults out.old))
+        (monitoring others (L.told link.new) (L.faults link.new) (C.told clock.new) (C.faults clock.new)
+        (E.words entropy.new) (E.faults entropy.new) (O.written out.new) (O.faults out.new))
         result }
 
     // Each fault has its cause, and where there is none the run is done.
@@ -69,11 +70,11 @@ fn ask_all<L: Link, C: Clock, E: Entropy, O: Sink>(
     entropy: &mut E,
     out: &mut O,
 ) -> MonitorWhy
-    ensures { Monitors directory.now
-        (seen (devices (L.told link.old) (L.faults link.old) (C.told clock.old) (C.faults clock.old)
-        (E.words entropy.old) (E.faults entropy.old)) (O.written out.old) (O.faults out.old))
-        (seen (devices (L.told link.new) (L.faults link.new) (C.told clock.new) (C.faults clock.new)
-        (E.words entropy.new) (E.faults entropy.new)) (O.written out.new) (O.faults out.new))
+    ensures { (others : Seen) → Monitors directory.now
+        (monitoring others (L.told link.old) (L.faults link.old) (C.told clock.old) (C.faults clock.old)
+        (E.words entropy.old) (E.faults entropy.old) (O.written out.old) (O.faults out.old))
+        (monitoring others (L.told link.new) (L.faults link.new) (C.told clock.new) (C.faults clock.new)
+        (E.words entropy.new) (E.faults entropy.new) (O.written out.new) (O.faults out.new))
         result }
 {
     let mut answered = 0;
@@ -97,16 +98,16 @@ fn report<L: Link, C: Clock, E: Entropy, O: Sink>(
     entropy: &mut E,
     out: &mut O,
 ) -> Result<Finding, MonitorWhy>
-    ensures reports { IfOk result (Reports entry.now
-        (seen (devices (L.told link.old) (L.faults link.old) (C.told clock.old) (C.faults clock.old)
-        (E.words entropy.old) (E.faults entropy.old)) (O.written out.old) (O.faults out.old))
-        (seen (devices (L.told link.new) (L.faults link.new) (C.told clock.new) (C.faults clock.new)
-        (E.words entropy.new) (E.faults entropy.new)) (O.written out.new) (O.faults out.new))) }
-    ensures stops { IfErr result (Stops entry.now
-        (seen (devices (L.told link.old) (L.faults link.old) (C.told clock.old) (C.faults clock.old)
-        (E.words entropy.old) (E.faults entropy.old)) (O.written out.old) (O.faults out.old))
-        (seen (devices (L.told link.new) (L.faults link.new) (C.told clock.new) (C.faults clock.new)
-        (E.words entropy.new) (E.faults entropy.new)) (O.written out.new) (O.faults out.new))) }
+    ensures reports { IfOk result (λ finding. (others : Seen) → Reports entry.now
+        (monitoring others (L.told link.old) (L.faults link.old) (C.told clock.old) (C.faults clock.old)
+        (E.words entropy.old) (E.faults entropy.old) (O.written out.old) (O.faults out.old))
+        (monitoring others (L.told link.new) (L.faults link.new) (C.told clock.new) (C.faults clock.new)
+        (E.words entropy.new) (E.faults entropy.new) (O.written out.new) (O.faults out.new)) finding) }
+    ensures stops { IfErr result (λ why. (others : Seen) → Stops entry.now
+        (monitoring others (L.told link.old) (L.faults link.old) (C.told clock.old) (C.faults clock.old)
+        (E.words entropy.old) (E.faults entropy.old) (O.written out.old) (O.faults out.old))
+        (monitoring others (L.told link.new) (L.faults link.new) (C.told clock.new) (C.faults clock.new)
+        (E.words entropy.new) (E.faults entropy.new) (O.written out.new) (O.faults out.new)) why) }
 {
     let ask = ask_computer(entry.addr, link, clock, entropy)?;
     let finding = ask.finding(entry.addr);
