@@ -19,7 +19,8 @@ use Rattle.run_deeds.specs.declared.life_end.Why.TheVariants.{Done}
 use Rattle.run_deeds.specs.Counting.{more}
 use Rattle.run_deeds.specs.Weaving.{Need, Weaves}
 use Rattle.run_deeds.specs.Deeds.{Deed, Take, Ending, Whole, NoRecord, NoLine, along, all_done, events_given, history_after, moves_in, posted_in, reasons_in, ticks_in}
-use Rattle.run_deeds.specs.Devices.{Does, Faults, Given, LifeEndsBy, Seen}
+use Rattle.edge_seen.specs.Seen.{Seen}
+use Rattle.run_deeds.specs.Devices.{Does, Faults, Given, LifeEndsBy, faults_of}
 use Rattle.run_deeds.specs.Marks.{Reserved}
 use Rattle.run_deeds.specs.Parts.{Part, Runs, Tallies, is_quiet}
 use Rattle.run_deeds.proofs.Deeding.{all_done-append, along-append, events_given-append, follows, history_after-append}
@@ -65,7 +66,7 @@ joined_runs : (conf : Conf) (from mid next : Need) (history : History) (a b c : 
     → Does conf history given deeds ending a b
     → (taken : List Event) → all_done deeds ending ≡ map Take taken
     → Tallies conf history (all_done deeds ending) given.link old between
-    → LifeEndsBy Done ending need a.faults b.faults
+    → LifeEndsBy Done ending need (faults_of a) (faults_of b)
     → need ≡ mid
     → (Reserved k0 (told conf history) → Reserved k1 (told conf (history_after history (all_done deeds ending))))
     → (two : Runs conf mid next (history_after history (all_done deeds ending)) b c k1 k2 between new why)
@@ -77,7 +78,7 @@ joined_runs conf from mid next history a b c k0 k1 k2 old between new why given 
     let done = all_done-append deeds two.deeds two.ending in
     let after : history_after history (all_done (deeds ++ two.deeds) two.ending) ≡ history_after (history_after history deeds) (all_done two.deeds two.ending) =
     ap (history_after history) done ∙ history_after-append history deeds (all_done two.deeds two.ending) in
-    let Ends : Faults → Type 0 = λ (f : Faults). LifeEndsBy why two.ending two.need f c.faults in (
+    let Ends : Faults → Type 0 = λ (f : Faults). LifeEndsBy why two.ending two.need f (faults_of c) in (
       record {
         given = given_then given two.given;
         deeds = deeds ++ two.deeds;

@@ -16,7 +16,8 @@ use Rattle.time_machine.specs.declared.conf.Conf.{Conf}
 use Rattle.time_machine.specs.Events.{History}
 use Rattle.time_machine.specs.Machine.{Posted}
 use Rattle.run_deeds.specs.Deeds.{Deed, Ending, Whole, along, all_done, history_after, moves_in, posted_in}
-use Rattle.run_deeds.specs.Devices.{Does, Faults, Given, Seen, nothing, seen}
+use Rattle.edge_seen.specs.Seen.{Seen}
+use Rattle.run_deeds.specs.Devices.{Does, Faults, Given, nothing, living}
 use Rattle.run_deeds.specs.Weaving.{posted_of}
 use Rattle.run_deeds.proofs.Deeding.{all-append, all_done-append, along-append, captured-append, events_given-append, has_line-append, printed-append}
 
@@ -31,7 +32,7 @@ does_none conf history now = record {
   fit = tt;
   has_line = tt;
   capture = added_none now.capture;
-  out = added_none now.out;
+  out = added_none now.written;
   link_failed = fails_none now.link_faults;
 }
 
@@ -62,7 +63,7 @@ does_then conf history given later ds es ending before mid now first second =
       words = added_more before.words mid.words now.words given.words later.words first.words second.words;
       fit = rw (events_given-append ds es ending) (all-append EventFits _ _ first.fit second.fit);
       capture = rw (captured-append ds es ending) (added_more before.capture mid.capture now.capture _ _ first.capture second.capture);
-      out = rw (printed-append conf history ds es ending) (added_more before.out mid.out now.out _ _ first.out second.out);
+      out = rw (printed-append conf history ds es ending) (added_more before.written mid.written now.written _ _ first.out second.out);
       has_line = has_line-append conf history ds es ending second.has_line;
       link_failed = subst Failed (sym (failed_calls-append given.link later.link))
           (fails_more (failed_calls given.link) (failed_calls later.link) before.link_faults mid.link_faults now.link_faults first.link_failed second.link_failed);
@@ -71,10 +72,10 @@ does_then conf history given later ds es ending before mid now first second =
 -- ---- One call of a device
 
 -- a reading was given
-pub does_read : (conf : Conf) (history : History) (link : Option (List LinkCall)) (clock clock' : Option (List ClockCall)) (words capture out : Option (List ℕ)) (link_faults : ℕ) (f f' : Faults) (now : ℤ)
+pub does_read : (others : Seen) (conf : Conf) (history : History) (link : Option (List LinkCall)) (clock clock' : Option (List ClockCall)) (words capture out : Option (List ℕ)) (link_faults : ℕ) (f f' : Faults) (now : ℤ)
     → GaveReadings clock clock' (now ∷ [])
-    → Does conf history (record { clock = Read now ∷ []; words = []; link = [] }) [] Whole (seen link clock words capture out link_faults f) (seen link clock' words capture out link_faults f')
-does_read conf history link clock clock' words capture out link_faults f f' now gave = record {
+    → Does conf history (record { clock = Read now ∷ []; words = []; link = [] }) [] Whole (living others link clock words capture out link_faults f) (living others link clock' words capture out link_faults f')
+does_read others conf history link clock clock' words capture out link_faults f f' now gave = record {
   link = grew_none link;
   requests = refl;
   clock = gave;
@@ -88,10 +89,10 @@ does_read conf history link clock clock' words capture out link_faults f f' now 
 }
 
 -- a word was given
-pub does_draw : (conf : Conf) (history : History) (link : Option (List LinkCall)) (clock : Option (List ClockCall)) (words words' capture out : Option (List ℕ)) (link_faults : ℕ) (f f' : Faults) (word : ℕ)
+pub does_draw : (others : Seen) (conf : Conf) (history : History) (link : Option (List LinkCall)) (clock : Option (List ClockCall)) (words words' capture out : Option (List ℕ)) (link_faults : ℕ) (f f' : Faults) (word : ℕ)
     → Added words words' (word ∷ [])
-    → Does conf history (record { clock = []; words = word ∷ []; link = [] }) [] Whole (seen link clock words capture out link_faults f) (seen link clock words' capture out link_faults f')
-does_draw conf history link clock words words' capture out link_faults f f' word gave = record {
+    → Does conf history (record { clock = []; words = word ∷ []; link = [] }) [] Whole (living others link clock words capture out link_faults f) (living others link clock words' capture out link_faults f')
+does_draw others conf history link clock words words' capture out link_faults f f' word gave = record {
   link = grew_none link;
   requests = refl;
   clock = grew_none clock;
@@ -105,10 +106,10 @@ does_draw conf history link clock words words' capture out link_faults f f' word
 }
 
 -- a receipt was given
-pub does_receive : (conf : Conf) (history : History) (link link' : Option (List LinkCall)) (clock : Option (List ClockCall)) (words capture out : Option (List ℕ)) (lf lf' : ℕ) (f : Faults) (receipt : Receipt)
+pub does_receive : (others : Seen) (conf : Conf) (history : History) (link link' : Option (List LinkCall)) (clock : Option (List ClockCall)) (words capture out : Option (List ℕ)) (lf lf' : ℕ) (f : Faults) (receipt : Receipt)
     → Grew link link' (Receive receipt ∷ []) → ReceiptCounts receipt lf lf'
-    → Does conf history (record { clock = []; words = []; link = Receive receipt ∷ [] }) [] Whole (seen link clock words capture out lf f) (seen link' clock words capture out lf' f)
-does_receive conf history link link' clock words capture out lf lf' f receipt gave counts = record {
+    → Does conf history (record { clock = []; words = []; link = Receive receipt ∷ [] }) [] Whole (living others link clock words capture out lf f) (living others link' clock words capture out lf' f)
+does_receive others conf history link link' clock words capture out lf lf' f receipt gave counts = record {
   link = gave;
   requests = refl;
   clock = grew_none clock;

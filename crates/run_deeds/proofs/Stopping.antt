@@ -10,7 +10,8 @@ use Rattle.run_deeds.specs.declared.life_end.Why.{Why}
 use Rattle.run_deeds.specs.declared.life_end.Why.TheVariants.{Done}
 use Rattle.run_deeds.specs.Weaving.{Need, Weaves}
 use Rattle.run_deeds.specs.Deeds.{Whole}
-use Rattle.run_deeds.specs.Devices.{Does, Faults, Given, LifeEndsBy, Seen, nothing, seen}
+use Rattle.edge_seen.specs.Seen.{Seen}
+use Rattle.run_deeds.specs.Devices.{Does, Faults, Given, LifeEndsBy, nothing, living, faults_of}
 use Rattle.run_deeds.specs.Parts.{Runs, Tallies}
 use Rattle.run_deeds.proofs.Doing.{does_none}
 
@@ -19,10 +20,10 @@ pub tallies_none : (conf : Conf) (history : History) (end : LifeEnd) → Tallies
 tallies_none conf history end = record { sent = refl; moved = refl; refused = refl; quiet = refl; lost = refl; turns = refl; why = refl }
 
 -- where only counts of faults changed, nothing was given or done
-pub does_still : (conf : Conf) (history : History) (link : Option (List LinkCall)) (clock : Option (List ClockCall)) (words capture out : Option (List ℕ)) (link_faults : ℕ) (before now : Faults)
-    → Does conf history nothing [] Whole (seen link clock words capture out link_faults before) (seen link clock words capture out link_faults now)
-does_still conf history link clock words capture out link_faults before now =
-    let same = does_none conf history (seen link clock words capture out link_faults before) in
+pub does_still : (others : Seen) (conf : Conf) (history : History) (link : Option (List LinkCall)) (clock : Option (List ClockCall)) (words capture out : Option (List ℕ)) (link_faults : ℕ) (before now : Faults)
+    → Does conf history nothing [] Whole (living others link clock words capture out link_faults before) (living others link clock words capture out link_faults now)
+does_still others conf history link clock words capture out link_faults before now =
+    let same = does_none conf history (living others link clock words capture out link_faults before) in
     record {
       link = same.link;
       requests = same.requests;
@@ -40,7 +41,7 @@ does_still conf history link clock words capture out link_faults before now =
 abbrev pub runs_stop : (conf : Conf) (from need next : Need) (history : History) (given : Given) (before now : Seen) (kept kept' : ℕ) (end : LifeEnd) (why : Why)
     → why ≢ Done → Grows conf history → Tallies conf history [] given.link end end
     → Weaves conf from history given.clock given.words given.link [] need → Does conf history given [] Whole before now
-    → LifeEndsBy why Whole need before.faults now.faults → Runs conf from next history before now kept kept' end end why
+    → LifeEndsBy why Whole need (faults_of before) (faults_of now) → Runs conf from next history before now kept kept' end end why
 runs_stop conf from need next history given before now kept kept' end why not grows counted weaves does ends = record {
   given = given;
   deeds = [];

@@ -5,6 +5,7 @@ use Rattle.base_specs.specs.Counts.{Fails, FailsTimes, Rose}
 use Rattle.base_specs.specs.Told.{Added, Grew}
 use Rattle.edge_traits.specs.Clock.{ClockCall, moves_among}
 use Rattle.edge_traits.specs.Link.{LinkCall, failed_calls, sends_among}
+use Rattle.edge_seen.specs.Seen.{Seen}
 use Rattle.capture_fmt.specs.declared.event.Event.{Event}
 use Rattle.capture_fmt.specs.declared.event.Event.TheVariants.{Life, Tick, Resync, Arrive}
 use Rattle.capture_fmt.specs.Event.{EventFits}
@@ -23,25 +24,30 @@ pub record Faults : Type 0 where
   pub capture : ℕ
   pub out : ℕ
 
--- what the devices tell at a moment, the disk aside, and how often their calls have failed
-pub record Seen : Type 0 where
-  pub link : Option (List LinkCall)
-  pub clock : Option (List ClockCall)
-  pub words : Option (List ℕ)
-  pub capture : Option (List ℕ)
-  pub out : Option (List ℕ)
-  pub link_faults : ℕ
-  pub faults : Faults
-
 -- these five put together
 abbrev pub faults : (clock entropy disk capture out : ℕ) → Faults
 faults clock entropy disk capture out =
     record { clock = clock; entropy = entropy; disk = disk; capture = capture; out = out }
 
--- these seven put together
-abbrev pub seen : Option (List LinkCall) → Option (List ClockCall) → Option (List ℕ) → Option (List ℕ) → Option (List ℕ) → ℕ → Faults → Seen
-seen link clock words capture out link_faults faults =
-    record { link = link; clock = clock; words = words; capture = capture; out = out; link_faults = link_faults; faults = faults }
+-- those that are told at a moment
+abbrev pub faults_of : Seen → Faults
+faults_of seen = faults seen.clock_faults seen.entropy_faults seen.disk_faults seen.capture_faults seen.write_faults
+
+-- what the devices tell where those of a run tell this
+abbrev pub living : Seen → Option (List LinkCall) → Option (List ClockCall) → Option (List ℕ) → Option (List ℕ) → Option (List ℕ) → ℕ → Faults → Seen
+living others link clock words capture out link_faults faults = record others {
+  link = link;
+  clock = clock;
+  words = words;
+  capture = capture;
+  written = out;
+  link_faults = link_faults;
+  clock_faults = faults.clock;
+  entropy_faults = faults.entropy;
+  disk_faults = faults.disk;
+  capture_faults = faults.capture;
+  write_faults = faults.out;
+}
 
 -- ---- What was given and done
 
@@ -65,7 +71,7 @@ pub record Does (conf : Conf) (history : History) (given : Given) (deeds : List 
   pub words : Added before.words now.words given.words
   pub fit : AllByRecursion EventFits (events_given deeds ending)
   pub capture : Added before.capture now.capture (captured deeds ending)
-  pub out : Added before.out now.out (printed conf history deeds ending)
+  pub out : Added before.written now.written (printed conf history deeds ending)
   pub has_line : HasLine conf history deeds ending
   pub link_failed : FailsTimes (failed_calls given.link) before.link_faults now.link_faults
 

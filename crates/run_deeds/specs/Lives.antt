@@ -7,6 +7,7 @@ use Rattle.line_text.specs.Text.{joined}
 use Rattle.edge_traits.specs.declared.link.Tried.{Tried}
 use Rattle.edge_traits.specs.Clock.{Read, moves_among, readings_among}
 use Rattle.edge_traits.specs.Link.{LinkCall, failed_calls, receipts_among, sends_among}
+use Rattle.edge_seen.specs.Seen.{Seen}
 use Rattle.capture_fmt.specs.declared.event.Event.{Event}
 use Rattle.capture_fmt.specs.declared.event.Event.TheVariants.{Life}
 use Rattle.capture_fmt.specs.Capture.{SpellsEvents}
@@ -29,7 +30,7 @@ use Rattle.run_deeds.specs.declared.life_end.Why.{Why}
 use Rattle.run_deeds.specs.declared.life_end.Why.TheVariants.{Done, DiskFault, BadVersion, StampsSpent, SinkFault}
 use Rattle.run_deeds.specs.Weaving.{Stood, Need, Start, Turns, Act, Weaves, clock_calls, posted_of, ticks_by, turn_calls, turn_requests, weave}
 use Rattle.run_deeds.specs.Deeds.{Ending, Whole, NoRecord, NoLine, Take, Print, missing_in, cut_record, reasons_by}
-use Rattle.run_deeds.specs.Devices.{Seen, Given, LifeEndsBy, IsBeforeTick}
+use Rattle.run_deeds.specs.Devices.{Given, LifeEndsBy, IsBeforeTick, faults_of}
 use Rattle.run_deeds.specs.Parts.{is_quiet}
 use Rattle.run_deeds.specs.Closing.{closing_lines, closing_by}
 use Rattle.run_deeds.specs.Marks.{IsDue, KeepsLoadable, MarksBeforeSends, blocks_of}
@@ -127,11 +128,11 @@ pub record Effects (conf : Conf) {turns : ℕ} {stood : Stood} (w : Woven conf t
   -- the report
   pub text : List ℕ
   pub reports : Reports conf (reverse w.events) end w.ending w.need text
-  pub out : Added before.out now.out text
+  pub out : Added before.written now.written text
 
 -- Why the run ended, and what it came to: exactly one call failed, or none, but for those of the link.
 pub record Ended (conf : Conf) {turns : ℕ} {stood : Stood} (w : Woven conf turns stood) (before now : Seen) (end : LifeEnd) : Type 0 where
-  pub ends : LifeEndsBy end.why w.ending w.need before.faults now.faults
+  pub ends : LifeEndsBy end.why w.ending w.need (faults_of before) (faults_of now)
   pub link_failed : FailsTimes (failed_calls w.given.link) before.link_faults now.link_faults
   pub well : end.why ≡ Done → w.need ≡ Turns 0
   -- where the record or the line of the Life could not be written, the first turn is needed next

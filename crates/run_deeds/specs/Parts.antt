@@ -4,6 +4,7 @@ use Rattle.std.specs.List.{count_by}
 use Rattle.edge_traits.specs.declared.link.Receipt.{Receipt}
 use Rattle.edge_traits.specs.declared.link.Receipt.TheVariants.{Got, Quiet, Failed}
 use Rattle.edge_traits.specs.Link.{LinkCall, failed_calls, receipts_among}
+use Rattle.edge_seen.specs.Seen.{Seen}
 use Rattle.capture_fmt.specs.declared.event.Event.{Event}
 use Rattle.time_machine.specs.declared.conf.Conf.{Conf}
 use Rattle.time_machine.specs.Events.{History}
@@ -18,7 +19,7 @@ use Rattle.run_deeds.specs.Weaving.{Need, Weaves}
 use Rattle.run_deeds.specs.Counting.{more}
 use Rattle.run_deeds.specs.Marks.{Reserved}
 use Rattle.run_deeds.specs.Deeds.{Deed, Take, Ending, along, history_after, posted_in, moves_in, reasons_in, ticks_in, all_done, events_given}
-use Rattle.run_deeds.specs.Devices.{Seen, Given, Does, LifeEndsBy}
+use Rattle.run_deeds.specs.Devices.{Given, Does, LifeEndsBy, faults_of}
 
 -- nothing came
 abbrev pub is_quiet : Receipt → Bool
@@ -56,7 +57,7 @@ pub record Runs (conf : Conf) (from next : Need) (history : History) (before now
   pub takes : all_done deeds ending ≡ map Take taken
   pub grows : Grows conf (history_after history (all_done deeds ending))
   pub tallies : Tallies conf history (all_done deeds ending) given.link old new
-  pub ends : LifeEndsBy why ending need before.faults now.faults
+  pub ends : LifeEndsBy why ending need (faults_of before) (faults_of now)
   pub well : why ≡ Done → need ≡ next
   -- the counts reserved are those that were due
   pub reserved : why ≡ Done → Reserved kept (told conf history)

@@ -1,6 +1,7 @@
 -- What a call that asks for a request answers.
 use Rattle.std.specs.Prelude.{◌≡◌, ℕ, Bool, true, false, ◌==◌, if◌then◌else◌, List, [], ◌∷◌, is_some, bit_and, Result, IfOk}
 use Rattle.std.specs.List.{count_by}
+use Rattle.edge_seen.specs.Seen.{Seen}
 use Rattle.time_machine.specs.declared.conf.Conf.{Conf}
 use Rattle.time_machine.specs.declared.outcome.Outcome.{Outcome}
 use Rattle.time_machine.specs.declared.outcome.Outcome.TheVariants.{Refused}
@@ -14,7 +15,6 @@ use Rattle.run_deeds.specs.declared.life_end.LifeEnd.{LifeEnd}
 use Rattle.run_deeds.specs.declared.life_end.Why.{Why}
 use Rattle.run_deeds.specs.Weaving.{Call, CallReading, Round}
 use Rattle.run_deeds.specs.Deeds.{Deed, Take, Print, along}
-use Rattle.run_deeds.specs.Devices.{Seen}
 use Rattle.run_deeds.specs.Parts.{Part, why_of}
 
 -- a reply was accepted

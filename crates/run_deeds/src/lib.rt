@@ -6,10 +6,10 @@
 //! the reading of its event. Here stands what that means for every part of a run and for each call at which it may end,
 //! and how parts add up. Of code there are the types [`Why`] and [`LifeEnd`] alone, which counts.
 //!
-//! It stands on `time_machine` and `sntp_core` for histories and members, on `stamp_keep` and `slot_disk` for marks,
-//! on `capture_fmt` for records, on `line_text` for lines and on `edge_traits` for devices. The layer above,
-//! `member_run`, keeps `Runs` of `specs/Parts.antt` in each of its parts, and `Lives` of `specs/Lives.antt`, the record
-//! of a whole run, in its call of one.
+//! It stands on `time_machine` and `sntp_core` for histories and members, on `stamp_keep` and `slot_disk` for marks, on
+//! `capture_fmt` for records, on `line_text` for lines and on `edge_traits` and `edge_seen` for devices. The layer
+//! above, `member_run`, keeps `Runs` of `specs/Parts.antt` in each of its parts, and `Lives` of `specs/Lives.antt`, the
+//! record of a whole run, in its call of one.
 //!
 //! The definitions, in the order to read them: `specs/Weaving.antt` (which events, and in which order
 //! the calls), `Deeds.antt` (what is done about
