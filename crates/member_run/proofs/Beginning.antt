@@ -20,7 +20,8 @@ use Rattle.run_deeds.specs.declared.life_end.Why.{Why}
 use Rattle.run_deeds.specs.declared.life_end.Why.TheVariants.{Done, SinkFault}
 use Rattle.run_deeds.specs.Counting.{counted}
 use Rattle.run_deeds.specs.Parts.{why_of}
-use Rattle.run_deeds.specs.Devices.{faults, seen}
+use Rattle.edge_seen.specs.Seen.{Seen}
+use Rattle.run_deeds.specs.Devices.{faults, living}
 use Rattle.member_run.specs.Asking.{WrittenBy}
 use Rattle.member_run.specs.Taking.{Acts, Takes, last_after}
 use Rattle.member_run.proofs.Sends.{acts_not}
@@ -43,18 +44,18 @@ life_last conf history event outcome last last' is leads after =
     ap Some (after ∙ ap (λ (o : Outcome). last_after o last) (leads ∙ starts.1)) ∙ starts.2
 
 -- nothing is sent or moved in taking it
-pub takes_life : (conf : Conf) (history : History) (event : Event) (outcome : Outcome) (member : Member)
+pub takes_life : (others : Seen) (conf : Conf) (history : History) (event : Event) (outcome : Outcome) (member : Member)
     (link : Option (List LinkCall)) (clock : Option (List ClockCall)) (words capture capture' out out' : Option (List ℕ))
     (lf cf ef df kf kf' of of' : ℕ) (end new : LifeEnd) (why : Why)
     → IsTrue (is_life event) → conf_of member ≡ conf → StandsForHistory member (event ∷ history) → EventFits event → outcome ≡ outcome_at conf history event
     → WrittenBy Done (event_bytes event) capture capture' kf kf' → new ≡ counted event outcome end → WrittenBy why (line_of outcome) out out' of of'
     → (why ≡ SinkFault → 0 < length (line_of outcome))
-    → Takes conf history event [] (seen link clock words capture out lf (faults cf ef df kf of)) (seen link clock words capture' out' lf (faults cf ef df kf' of')) member end new why
-takes_life conf history event outcome member link clock words capture capture' out out' lf cf ef df kf kf' of of' end new why is is_set stands fits leads written was line some =
+    → Takes conf history event [] (living others link clock words capture out lf (faults cf ef df kf of)) (living others link clock words capture' out' lf (faults cf ef df kf' of')) member end new why
+takes_life others conf history event outcome member link clock words capture capture' out out' lf cf ef df kf kf' of of' end new why is is_set stands fits leads written was line some =
     let starts = life_starts conf history event is in
     let acts : Acts outcome link link clock clock lf lf new new =
     subst (λ (o : Outcome). Acts o link link clock clock lf lf new new) (sym (leads ∙ starts.1)) (acts_not starts.0 link clock lf new) in
-    takes_all conf history event outcome member link link clock clock words capture capture' out out' lf lf cf ef df kf kf' of of' end new new why is_set stands fits leads written was acts line some
+    takes_all others conf history event outcome member link link clock clock words capture capture' out out' lf lf cf ef df kf kf' of of' end new new why is_set stands fits leads written was acts line some
 
 -- what holds where a call failed holds where its answer is that of a sink
 pub on_fault : {A P : Type 0} (result : Result A Why) → OnErr result P → why_of result ≡ SinkFault → P

@@ -20,7 +20,8 @@ use Rattle.run_deeds.specs.declared.life_end.Why.{Why}
 use Rattle.run_deeds.specs.declared.life_end.Why.TheVariants.{Done, DiskFault, BadVersion, StampsSpent, ClockFault, EntropyFault, SinkFault}
 use Rattle.run_deeds.specs.Weaving.{Need, Start, Turns, WordFor, ReceiptNow, ReadingFor, Call, CallReading, CallWord, Round, RoundReading, Act, Weaves, none, acts, call_reads, call_draws, behind_request}
 use Rattle.run_deeds.specs.Deeds.{Deed, Take, Ending, along, all_done, history_after}
-use Rattle.run_deeds.specs.Devices.{Faults, IsBehind, IsBetween, IsInCalls, IsToDo, LifeEndsBy, NeedsCount, NeedsDisk, NeedsMark, NeedsReading, NeedsReceipt, NeedsWord, Seen}
+use Rattle.edge_seen.specs.Seen.{Seen}
+use Rattle.run_deeds.specs.Devices.{Faults, IsBehind, IsBetween, IsInCalls, IsToDo, LifeEndsBy, NeedsCount, NeedsDisk, NeedsMark, NeedsReading, NeedsReceipt, NeedsWord, faults_of}
 use Rattle.run_deeds.specs.Parts.{Part, Runs}
 use Rattle.run_deeds.specs.Rounds.{Answers, RoundAnswers, is_moved, is_too_big, outcomes_in, result_of, round_result}
 use Rattle.member_run.specs.declared.running.Running.{Running}
@@ -237,7 +238,7 @@ wait_runs conf wait flags history a b kept kept' old new why r = record {
   takes = r.takes;
   grows = r.grows;
   tallies = r.tallies;
-  ends = wait_ends wait why r.deeds r.ending r.taken r.need a.faults b.faults r.takes r.ends;
+  ends = wait_ends wait why r.deeds r.ending r.taken r.need (faults_of a) (faults_of b) r.takes r.ends;
   well = λ is. ap (waiting wait) (r.well is);
   reserved = r.reserved;
 }

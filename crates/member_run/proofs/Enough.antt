@@ -12,7 +12,8 @@ use Rattle.run_deeds.specs.declared.life_end.LifeEnd.{LifeEnd}
 use Rattle.run_deeds.specs.declared.life_end.Why.{Why}
 use Rattle.run_deeds.specs.declared.life_end.Why.TheVariants.{Done, BadVersion, StampsSpent}
 use Rattle.run_deeds.specs.Deeds.{Ending, Whole, NoRecord, NoLine, IsWhole, missing_in}
-use Rattle.run_deeds.specs.Devices.{LifeEndsBy, NoneRose, Seen}
+use Rattle.edge_seen.specs.Seen.{Seen}
+use Rattle.run_deeds.specs.Devices.{LifeEndsBy, NoneRose, faults_of}
 use Rattle.run_deeds.specs.Lives.{KeptBy, Lives}
 use Rattle.member_run.proofs.Ahead.{run_ahead}
 use Rattle.member_run.proofs.Blocks.{sends_in}
@@ -28,7 +29,7 @@ none_missing (NoLine deed front) whole = refl
 pub had_few : (conf : Conf) (turns : ℕ) (entry exit : DiskTold) (before now : Seen) (end : LifeEnd) (content : List ℕ) → Lives conf turns entry exit before now end
     → end.why ≡ StampsSpent → entry.content ≡ Some content → mark_of_image content + turns ≤ 4294967232 → ⊥
 had_few conf turns entry exit before now end content l spent disk fits =
-    let ends = subst (λ (w : Why). LifeEndsBy w l.woven.ending l.woven.need before.faults now.faults) spent l.ended.ends in
+    let ends = subst (λ (w : Why). LifeEndsBy w l.woven.ending l.woven.need (faults_of before) (faults_of now)) spent l.ended.ends in
     let given : l.woven.events ++ missing_in l.woven.ending ≡ l.woven.events = ap (λ (es : List Event). l.woven.events ++ es) (none_missing l.woven.ending ends.0) ∙ append-nil l.woven.events in
     let P : List Event → Type 0 = λ (es : List Event). 1 + sends_in conf es ≤ turns in
     let ahead : P (reverse l.woven.events) = subst P (followed_none (l.woven.events ++ missing_in l.woven.ending) ∙ ap reverse given) (run_ahead l.woven.weaves ends.1) in
@@ -50,8 +51,8 @@ else_done version spent (inr (inr short)) = absurd (spent short)
 
 -- where no call failed, a run of a disk of this version whose counts suffice is done
 pub done_within : (conf : Conf) (turns : ℕ) (entry exit : DiskTold) (before now : Seen) (end : LifeEnd) → Lives conf turns entry exit before now end → (content : List ℕ)
-    → entry.content ≡ Some content → IsLoadable content → mark_of_image content + turns ≤ 4294967232 → NoneRose before.faults now.faults → end.why ≡ Done
+    → entry.content ≡ Some content → IsLoadable content → mark_of_image content + turns ≤ 4294967232 → NoneRose (faults_of before) (faults_of now) → end.why ≡ Done
 done_within conf turns entry exit before now end l content disk loadable fits none =
     else_done (λ version. had_version conf turns entry exit before now end content l version disk loadable)
     (λ spent. had_few conf turns entry exit before now end content l spent disk fits)
-    (none_blamed end.why l.woven.ending l.woven.need before.faults now.faults l.ended.ends none)
+    (none_blamed end.why l.woven.ending l.woven.need (faults_of before) (faults_of now) l.ended.ends none)

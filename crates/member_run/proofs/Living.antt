@@ -44,7 +44,8 @@ use Rattle.run_deeds.specs.Closing.{closing_by, closing_lines}
 use Rattle.run_deeds.specs.Counting.{ended, more, with_why}
 use Rattle.run_deeds.specs.Weaving.{Need, Start, Turns, WordFor, ReceiptNow, ReadingFor, Call, CallReading, CallWord, Round, RoundReading, Act, Stood, Weaves, none, acts, life, reads, draws, followed_by, posted_of, turns_of, weave}
 use Rattle.run_deeds.specs.Deeds.{Deed, Take, Print, Ending, Whole, NoRecord, NoLine, HasLine, IsWhole, all_done, along, cut_record, events_given, events_in, history_after, line_in, missing_in, posted_in, moves_in, printed, reasons_in, ticks_in}
-use Rattle.run_deeds.specs.Devices.{Faults, Given, IsBeforeTick, IsBehind, IsBetween, IsInCalls, IsToDo, LifeEndsBy, NeedsCount, NeedsDisk, NeedsMark, NeedsReading, NeedsReceipt, NeedsWord, Seen, SinkFailed, StopsAt, faults, seen}
+use Rattle.edge_seen.specs.Seen.{Seen}
+use Rattle.run_deeds.specs.Devices.{Faults, Given, IsBeforeTick, IsBehind, IsBetween, IsInCalls, IsToDo, LifeEndsBy, NeedsCount, NeedsDisk, NeedsMark, NeedsReading, NeedsReceipt, NeedsWord, SinkFailed, StopsAt, faults, living, faults_of}
 use Rattle.run_deeds.specs.Marks.{Covers, KeepsLoadable, MarksBeforeSends, Reserved, blocks_of}
 use Rattle.run_deeds.specs.Parts.{Part, Runs, Tallies}
 use Rattle.run_deeds.specs.Lives.{CallsForBlocks, KeptBy, Lives, Reports, StandsForBlocks, Totals, behind_act}
@@ -300,7 +301,7 @@ lived_of conf turns stood before now kept kept' new why r =
       requests = r.does.requests ∙ ap (along (posted_in conf) []) r.takes ∙ sym (requests_are conf r.taken);
       clock = r.does.clock;
       moves = r.does.moves ∙ ap (along (moves_in conf) []) r.takes ∙ sym (moves_are conf r.taken);
-      order = order_of conf turns stood r.given r.deeds r.taken r.ending r.need weaves r.takes (known_missing why r.ending r.need before.faults now.faults r.ends r.well);
+      order = order_of conf turns stood r.given r.deeds r.taken r.ending r.need weaves r.takes (known_missing why r.ending r.need (faults_of before) (faults_of now) r.ends r.well);
       words = r.does.words;
       fits = (all_split EventFits r.taken (missing_in r.ending) fit).0;
       capture = subst (λ (bs : List ℕ). Added before.capture now.capture bs) (captured_is r.deeds r.ending r.taken r.takes) r.does.capture;
@@ -532,12 +533,12 @@ parted_of conf turns entry mid exit before between now old new why begun going t
       reserved = λ is. subst (λ (h : History). Reserved (kept_of new) (told conf h)) same (two.part.runs.reserved is reserved);
       greatest = greatest_is new conf newer two.part.is_set two.part.stands ∙ ap (λ (h : History). greatest_count (told conf h)) same;
       behind = λ is time only.
-          let failed = (subst (λ (w : Why). LifeEndsBy w r.ending r.need between.faults now.faults) is r.ends).1 in
+          let failed = (subst (λ (w : Why). LifeEndsBy w r.ending r.need (faults_of between) (faults_of now)) is r.ends).1 in
           let pieces = alone all.taken (missing_in all.ending) (Life time stood.mark) only (λ empty. none_marked conf (subst Marked (ap reverse empty) last)) in
           let missing : missing_in r.ending ≡ [] = ap missing_in (sym both.2) ∙ pieces.0 in
           let history : followed_by older r.taken ≡ Life time stood.mark ∷ [] = sym (taken_history older r.deeds r.ending r.taken r.takes) ∙ same ∙ ap reverse pieces.1 in
           not_alone older r.taken (Life time stood.mark) (λ empty. none_marked conf (subst Marked empty marked))
-          (λ empty. none_ended r.deeds r.ending r.taken between.faults now.faults r.takes failed (ap (λ (l : List Event). l ++ missing_in r.ending) empty ∙ missing)) history;
+          (λ empty. none_ended r.deeds r.ending r.taken (faults_of between) (faults_of now) r.takes failed (ap (λ (l : List Event). l ++ missing_in r.ending) empty ∙ missing)) history;
     }
   where
     begins_by : {mark : ℕ} {taken : List Event} → (taken ≡ []) ⊎ BeginsLife mark taken → (taken ≡ [] → ⊥) → BeginsLife mark taken
@@ -549,8 +550,8 @@ parted_of conf turns entry mid exit before between now old new why begun going t
 pub lives_made : (conf : Conf) (turns : ℕ) (entry exit : DiskTold) (before now : Seen) (stood : Stood) (given : Given) (taken : List Event) (ending : Ending) (need : Need) (end : LifeEnd) (text : List ℕ)
     → IfSome entry.content (λ c. stood.mark ≡ mark_of_image c)
     → Lived conf turns stood before now given taken ending need end
-    → Reports conf (reverse taken) end ending need text → Added before.out now.out text
-    → LifeEndsBy end.why ending need before.faults now.faults → (end.why ≡ Done → need ≡ Turns 0)
+    → Reports conf (reverse taken) end ending need text → Added before.written now.written text
+    → LifeEndsBy end.why ending need (faults_of before) (faults_of now) → (end.why ≡ Done → need ≡ Turns 0)
     → (end.why ≡ SinkFault → (now : ℤ) → taken ++ missing_in ending ≡ Life now stood.mark ∷ [] → behind_act need ≡ Turns turns)
     → KeptBy end.why stood taken (told conf (reverse taken)) entry exit
     → ((taken ≢ []) ⊎ ((end.why ≢ BadVersion) × (end.why ≢ DiskFault)) → IfSome entry.content IsLoadable)
@@ -719,11 +720,11 @@ report_whole : (conf : Conf) (deeds : List Deed) (taken : List Event) → deeds 
 report_whole conf deeds taken is = ap (along (line_in conf) []) is ∙ sym (lines_are conf taken)
 
 -- the same where nothing but the report changed
-lived_as : (conf : Conf) (turns : ℕ) (stood : Stood) (before : Seen) (link : Option (List LinkCall)) (clock : Option (List ClockCall)) (words capture out out' : Option (List ℕ)) (link_faults : ℕ) (fs fs' : Faults) (given : Given) (taken : List Event) (ending : Ending) (need : Need) (why : Why) (end : LifeEnd)
+lived_as : (others : Seen) (conf : Conf) (turns : ℕ) (stood : Stood) (before : Seen) (link : Option (List LinkCall)) (clock : Option (List ClockCall)) (words capture out out' : Option (List ℕ)) (link_faults : ℕ) (fs fs' : Faults) (given : Given) (taken : List Event) (ending : Ending) (need : Need) (why : Why) (end : LifeEnd)
     → missing_in ending ≡ [] → cut_record ending ≡ []
-    → Lived conf turns stood before (seen link clock words capture out link_faults fs) given taken Whole need end
-    → Lived conf turns stood before (seen link clock words capture out' link_faults fs') given taken ending need (with_why why end)
-lived_as conf turns stood before link clock words capture out out' link_faults fs fs' given taken ending need why end missing cut lived = record {
+    → Lived conf turns stood before (living others link clock words capture out link_faults fs) given taken Whole need end
+    → Lived conf turns stood before (living others link clock words capture out' link_faults fs') given taken ending need (with_why why end)
+lived_as others conf turns stood before link clock words capture out out' link_faults fs fs' given taken ending need why end missing cut lived = record {
   weaves = rw missing lived.weaves;
   grows = lived.grows;
   link = lived.link;
@@ -753,12 +754,12 @@ within_blocks : (why : Why) (ending : Ending) (need : Need) (entries : List Told
     → LeavesOnly entry exit (λ image. StandsAsBefore entry image ⊎ StandsForBlocks why ending need entries mark image)
 within_blocks why ending need entries mark entry exit most = weaker most (λ image stands. ⊎_elim (λ was. inl was) (λ low. inr (inl low)) stands)
 
-module _ (conf : Conf) (turns : ℕ) (entry exit : DiskTold) (before : Seen) (stood : Stood) (given : Given) (taken : List Event) (need : Need) (end : LifeEnd) (printed_text : List ℕ)
+module _ (others : Seen) (conf : Conf) (turns : ℕ) (entry exit : DiskTold) (before : Seen) (stood : Stood) (given : Given) (taken : List Event) (need : Need) (end : LifeEnd) (printed_text : List ℕ)
     (link : Option (List LinkCall)) (clock : Option (List ClockCall)) (words capture out out' : Option (List ℕ)) (link_faults cf ef df kf of of' : ℕ)
     (stood_for : IfSome entry.content (λ c. stood.mark ≡ mark_of_image c))
-    (lived : Lived conf turns stood before (seen link clock words capture out link_faults (faults cf ef df kf of)) given taken Whole need end)
-    (is_report : printed_text ≡ report_of conf (reverse taken)) (wrote : Added before.out out printed_text)
-    (same : faults cf ef df kf of ≡ before.faults) (well : need ≡ Turns 0) (loads : IfSome entry.content IsLoadable) (still : KeepsLoadable entry exit)
+    (lived : Lived conf turns stood before (living others link clock words capture out link_faults (faults cf ef df kf of)) given taken Whole need end)
+    (is_report : printed_text ≡ report_of conf (reverse taken)) (wrote : Added before.written out printed_text)
+    (same : faults cf ef df kf of ≡ (faults_of before)) (well : need ≡ Turns 0) (loads : IfSome entry.content IsLoadable) (still : KeepsLoadable entry exit)
     (marks : MarksBeforeSends entry exit stood.mark (told conf (reverse taken)))
     (within : stood.mark + 64 * blocks_of (life_at (told conf (reverse taken))) < 2 ^ 32)
     (calls : exit.time ≤ entry.time + 4 + 5 * (1 + length (sends_among given.link) / 64))
@@ -769,13 +770,13 @@ module _ (conf : Conf) (turns : ℕ) (entry exit : DiskTold) (before : Seen) (st
     (loaded : (image : List ℕ) → exit.may_leave image → IsLoadable image)
     (reserved : IfSome exit.content (λ c. mark_of_image c ≡ stood.mark + 64 * blocks_of (life_at (told conf (reverse taken))))) where
   closes : (why : Why) → Closes end why out out' of of'
-      → Lives conf turns entry exit before (seen link clock words capture out' link_faults (faults cf ef df kf of')) (with_why why end)
+      → Lives conf turns entry exit before (living others link clock words capture out' link_faults (faults cf ef df kf of')) (with_why why end)
   closes Done (added, none_failed) =
       let text = printed_text ++ joined (closing_lines end) in
-      lives_made conf turns entry exit before (seen link clock words capture out' link_faults (faults cf ef df kf of')) stood given taken Whole need (with_why Done end) text stood_for
-      (lived_as conf turns stood before link clock words capture out out' link_faults (faults cf ef df kf of) (faults cf ef df kf of') given taken Whole need Done end refl refl lived)
+      lives_made conf turns entry exit before (living others link clock words capture out' link_faults (faults cf ef df kf of')) stood given taken Whole need (with_why Done end) text stood_for
+      (lived_as others conf turns stood before link clock words capture out out' link_faults (faults cf ef df kf of) (faults cf ef df kf of') given taken Whole need Done end refl refl lived)
       (ap (λ (l : List ℕ). l ++ joined (closing_lines end)) is_report)
-      (added_more before.out out out' printed_text (joined (closing_lines end)) wrote added)
+      (added_more before.written out out' printed_text (joined (closing_lines end)) wrote added)
       (tt, ap (λ (n : ℕ). faults cf ef df kf n) none_failed ∙ same)
       (λ is. well) (λ is now only. absurd (let bad : ⊥ = cc is in bad)) tt (λ any. loads) still marks (λ some. within) calls (inl blocks) (within_blocks Done Whole need (life_at (told conf (reverse taken))) stood.mark entry exit most) unused (λ any image left. (loaded image left, inl (low image left))) (λ is. reserved)
   closes SinkFault (first, rest, line, front, are, added, fails) =
@@ -783,10 +784,10 @@ module _ (conf : Conf) (turns : ℕ) (entry exit : DiskTold) (before : Seen) (st
       let text = printed_text ++ cut in
       let ending = NoLine (Print line) front in
       let Failed : Faults → Type 0 = λ (f : Faults). Fails f.out of' × (faults cf ef df kf of' ≡ record f { out = of' }) in
-      lives_made conf turns entry exit before (seen link clock words capture out' link_faults (faults cf ef df kf of')) stood given taken ending need (with_why SinkFault end) text stood_for
-      (lived_as conf turns stood before link clock words capture out out' link_faults (faults cf ef df kf of) (faults cf ef df kf of') given taken ending need SinkFault end refl refl lived)
+      lives_made conf turns entry exit before (living others link clock words capture out' link_faults (faults cf ef df kf of')) stood given taken ending need (with_why SinkFault end) text stood_for
+      (lived_as others conf turns stood before link clock words capture out out' link_faults (faults cf ef df kf of) (faults cf ef df kf of') given taken ending need SinkFault end refl refl lived)
       (first, rest, well, are, ap (λ (l : List ℕ). l ++ cut) is_report ∙ sym (append_assoc (report_of conf (reverse taken)) (joined first) (take front line)))
-      (added_more before.out out out' printed_text cut wrote added)
+      (added_more before.written out out' printed_text cut wrote added)
       (well, subst Failed same (fails, refl))
       (λ is. well) (λ is now only. life_only lived.weaves (ap (λ (l : List Event). taken ++ l) refl ∙ only) well) tt (λ any. loads) still marks (λ some. within) calls (inl blocks) (within_blocks SinkFault ending need (life_at (told conf (reverse taken))) stood.mark entry exit most) unused (λ any image left. (loaded image left, inl (low image left))) (λ is. reserved)
   closes DiskFault never = absurd never
@@ -803,15 +804,15 @@ reserved_at conf turns stood entry exit before now new p going =
     let mark : unwrap_or (mark_in conf (reverse p.runs.taken)) 0 ≡ stood.mark = rw (life_mark conf stood.mark p.runs.taken p.begins) refl in
     some_as _ _ exit.content (λ c is. omega (arith, is, blocks, mark)) going.fits.content
 
-pub lives_closed : (conf : Conf) (turns : ℕ) (entry mid exit : DiskTold) (before between : Seen) (link : Option (List LinkCall)) (clock : Option (List ClockCall)) (words capture out out' : Option (List ℕ)) (link_faults cf ef df kf of of' : ℕ) (old new : Running) (why : Why)
+pub lives_closed : (others : Seen) (conf : Conf) (turns : ℕ) (entry mid exit : DiskTold) (before between : Seen) (link : Option (List LinkCall)) (clock : Option (List ClockCall)) (words capture out out' : Option (List ℕ)) (link_faults cf ef df kf of of' : ℕ) (old new : Running) (why : Why)
     → HasBegun conf (Turns turns) entry before between old → IsGoing mid old
-    → ((history : History) → StandsForHistory (member_of old) history → TakesTurns turns history old new mid exit between (seen link clock words capture out link_faults (faults cf ef df kf of)) Done)
+    → ((history : History) → StandsForHistory (member_of old) history → TakesTurns turns history old new mid exit between (living others link clock words capture out link_faults (faults cf ef df kf of)) Done)
     → OnDisk entry mid exit → Covers exit (greatest_of new) → IsGoing exit new
     → Closes (totals_of new) why out out' of of'
-    → Lives conf turns entry exit before (seen link clock words capture out' link_faults (faults cf ef df kf of')) (with_why why (totals_of new))
-lives_closed conf turns entry mid exit before between link clock words capture out out' link_faults cf ef df kf of of' old new why begun going took disk covers goes closing =
+    → Lives conf turns entry exit before (living others link clock words capture out' link_faults (faults cf ef df kf of')) (with_why why (totals_of new))
+lives_closed others conf turns entry mid exit before between link clock words capture out out' link_faults cf ef df kf of of' old new why begun going took disk covers goes closing =
     let stood = begun.stood in
-    let taken : Seen = seen link clock words capture out link_faults (faults cf ef df kf of) in
+    let taken : Seen = living others link clock words capture out link_faults (faults cf ef df kf of) in
     let p = parted_of conf turns entry mid exit before between taken old new Done begun going took in
     let r = p.runs in
     let whole = whole_is r.ending r.ends.0 in
@@ -819,7 +820,7 @@ lives_closed conf turns entry mid exit before between link clock words capture o
     let takes = rw whole at r.takes in
     let entries = life_at (told conf (reverse r.taken)) in
     let most = weaker (most_of conf turns stood mid exit before taken new Done p) (λ image stands. stands_whole Done r.ending r.need entries stood.mark image whole (r.well refl) stands) in
-    closes conf turns entry exit before stood r.given r.taken r.need (totals_of new) (printed conf [] r.deeds Whole)
+    closes others conf turns entry exit before stood r.given r.taken r.need (totals_of new) (printed conf [] r.deeds Whole)
     link clock words capture out out' link_faults cf ef df kf of of' begun.stood_for (rw whole at lived) (report_whole conf r.deeds r.taken takes) (rw whole at r.does.out)
     r.ends.1 (r.well refl) disk.loads (loads_then disk.loads_first disk.loads_next) (marks_kept conf stood.mark (greatest_of new) r.taken entry exit p.begins covers p.greatest (marks_then disk.first disk.next))
     (within_of conf turns stood mid exit before taken new Done p)
@@ -984,7 +985,7 @@ start_runs conf turns stood before now kept kept' end why of r = record {
   takes = r.takes;
   grows = r.grows;
   tallies = r.tallies;
-  ends = start_ends turns stood.mark why r.deeds r.ending r.taken r.need before.faults now.faults of r.takes (at_start r.weaves) r.ends;
+  ends = start_ends turns stood.mark why r.deeds r.ending r.taken r.need (faults_of before) (faults_of now) of r.takes (at_start r.weaves) r.ends;
   well = λ is. absurd (never_done why of is);
   reserved = r.reserved;
 }
@@ -1037,7 +1038,7 @@ before_life deeds ending need taken takes whole needs (inl is) = absurd (disk_no
 before_life deeds ending need taken takes whole needs (inr is) = sym (whole_given deeds ending taken whole takes) ∙ is
 
 kept_at_start : (why : Why) (conf : Conf) (stood : Stood) (entry exit : DiskTold) (before now : Seen) (deeds : List Deed) (ending : Ending) (need : Need) (taken : List Event) (told_before : List Told) → IsOfStart why
-    → all_done deeds ending ≡ map Take taken → (behind_act need ≡ Call) ⊎ (events_given deeds ending ≡ []) → LifeEndsBy why ending need before.faults now.faults
+    → all_done deeds ending ≡ map Take taken → (behind_act need ≡ Call) ⊎ (events_given deeds ending ≡ []) → LifeEndsBy why ending need (faults_of before) (faults_of now)
     → (why ≡ BadVersion → IfSome entry.content HasOtherVersion) → (why ≡ BadVersion → IsLeft entry exit) → KeptBy why stood taken told_before entry exit
 kept_at_start Done conf stood entry exit before now deeds ending need taken told_before of takes first ends version left = tt
 kept_at_start DiskFault conf stood entry exit before now deeds ending need taken told_before of takes first ends version left =
@@ -1051,7 +1052,7 @@ kept_at_start SinkFault conf stood entry exit before now deeds ending need taken
 
 -- what ended at the disk took no event
 begun_not : (why : Why) (before now : Seen) (deeds : List Deed) (ending : Ending) (need : Need) (taken : List Event) → IsOfStart why
-    → all_done deeds ending ≡ map Take taken → (behind_act need ≡ Call) ⊎ (events_given deeds ending ≡ []) → LifeEndsBy why ending need before.faults now.faults
+    → all_done deeds ending ≡ map Take taken → (behind_act need ≡ Call) ⊎ (events_given deeds ending ≡ []) → LifeEndsBy why ending need (faults_of before) (faults_of now)
     → taken ≢ [] → (why ≢ BadVersion) × (why ≢ DiskFault)
 begun_not Done before now deeds ending need taken of takes first ends some = absurd of
 begun_not DiskFault before now deeds ending need taken of takes first ends some = absurd (some (before_life deeds ending need taken takes ends.0 (inr ends.1) first))

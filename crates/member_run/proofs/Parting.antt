@@ -17,7 +17,8 @@ use Rattle.run_deeds.specs.declared.life_end.LifeEnd.{LifeEnd}
 use Rattle.run_deeds.specs.declared.life_end.Why.{Why}
 use Rattle.run_deeds.specs.declared.life_end.Why.TheVariants.{Done, DiskFault, BadVersion, StampsSpent, ClockFault, EntropyFault, SinkFault}
 use Rattle.run_deeds.specs.Deeds.{Deed, Take, Print, Ending, Whole, NoRecord, NoLine, IsWhole, all_done, events_given, events_in, history_after}
-use Rattle.run_deeds.specs.Devices.{Does, Faults, Given, IsBehind, IsToDo, LifeEndsBy, Seen, SinkFailed, StopsAt}
+use Rattle.edge_seen.specs.Seen.{Seen}
+use Rattle.run_deeds.specs.Devices.{Does, Faults, Given, IsBehind, IsToDo, LifeEndsBy, SinkFailed, StopsAt, faults_of}
 use Rattle.run_deeds.specs.Marks.{Reserved}
 use Rattle.run_deeds.specs.Parts.{Part, Runs, Tallies}
 use Rattle.run_deeds.specs.Weaving.{Act, Need, Weaves, acts, followed_by, none, posted_of}
@@ -110,7 +111,7 @@ whole_need (NoLine deed front) outcome next whole = refl
 
 -- After what was given, an event is taken, for which these calls of the clock were made. Its calls are woven behind.
 abbrev pub runs_takes : (conf : Conf) (from next : Need) (history : History) (event : Event) (given : Given) (read : List ClockCall) (before mid now : Seen) (member : Member) (kept kept' : ℕ) (old new : LifeEnd) (why : Why)
-    → Does conf history given [] Whole before mid → Tallies conf history [] given.link old old → mid.faults ≡ before.faults
+    → Does conf history given [] Whole before mid → Tallies conf history [] given.link old old → (faults_of mid) ≡ (faults_of before)
     → Takes conf history event read mid now member old new why
     → ((cs : List ClockCall) (ls : List LinkCall) (need : Need) → Weaves conf (Act (outcome_at conf history event) next) (event ∷ history) cs [] ls [] need
     → Weaves conf from history (given.clock ++ (read ++ cs)) (given.words ++ []) (given.link ++ ls) (event ∷ []) need)
@@ -130,16 +131,16 @@ runs_takes conf from next history event given read before mid now member kept ke
       takes = takes.takes;
       grows = subst (λ (set : Conf). Grows set (history_after history (all_done takes.deeds takes.ending))) takes.is_set takes.stands.grows;
       tallies = tallies_then conf history [] (all_done takes.deeds takes.ending) given.link (map Send takes.tried) old old new counted takes.tallies;
-      ends = subst (λ (f : Faults). LifeEndsBy why takes.ending need f now.faults) quiet (take_ends why takes.ending need mid.faults now.faults takes.ends
-          (stops_behind takes.deeds takes.ending event takes.taken outcome next mid.faults now.faults takes.events takes.takes behind));
-      well = λ is. whole_need takes.ending outcome next (take_whole why takes.ending mid.faults now.faults takes.ends is);
+      ends = subst (λ (f : Faults). LifeEndsBy why takes.ending need f (faults_of now)) quiet (take_ends why takes.ending need (faults_of mid) (faults_of now) takes.ends
+          (stops_behind takes.deeds takes.ending event takes.taken outcome next (faults_of mid) (faults_of now) takes.events takes.takes behind));
+      well = λ is. whole_need takes.ending outcome next (take_whole why takes.ending (faults_of mid) (faults_of now) takes.ends is);
       reserved = λ is was.
-          rw (whole_history history event takes.deeds takes.ending (take_whole why takes.ending mid.faults now.faults takes.ends is) takes.events) (reserved is was);
+          rw (whole_history history event takes.deeds takes.ending (take_whole why takes.ending (faults_of mid) (faults_of now) takes.ends is) takes.events) (reserved is was);
     }
 
 -- the same with the member
 pub part_takes : (conf : Conf) (from next : Need) (history : History) (event : Event) (given : Given) (read : List ClockCall) (before mid now : Seen) (member : Member) (kept kept' : ℕ) (old new : LifeEnd) (why : Why)
-    → Does conf history given [] Whole before mid → Tallies conf history [] given.link old old → mid.faults ≡ before.faults
+    → Does conf history given [] Whole before mid → Tallies conf history [] given.link old old → (faults_of mid) ≡ (faults_of before)
     → Takes conf history event read mid now member old new why
     → ((cs : List ClockCall) (ls : List LinkCall) (need : Need) → Weaves conf (Act (outcome_at conf history event) next) (event ∷ history) cs [] ls [] need
     → Weaves conf from history (given.clock ++ (read ++ cs)) (given.words ++ []) (given.link ++ ls) (event ∷ []) need)
@@ -158,7 +159,7 @@ part_takes conf from next history event given read before mid now member kept ke
 pub part_stops : (conf : Conf) (from need next : Need) (history : History) (given : Given) (before now : Seen) (member : Member) (kept kept' : ℕ) (end : LifeEnd) (why : Why)
     → conf_of member ≡ conf → StandsForHistory member history → why ≢ Done → Tallies conf history [] given.link end end
     → Weaves conf from history given.clock given.words given.link [] need → Does conf history given [] Whole before now
-    → LifeEndsBy why Whole need before.faults now.faults → Part conf from next history before now member kept kept' end end why
+    → LifeEndsBy why Whole need (faults_of before) (faults_of now) → Part conf from next history before now member kept kept' end end why
 part_stops conf from need next history given before now member kept kept' end why is_set stands not counted weaves does ends = record {
   runs = runs_stop conf from need next history given before now kept kept' end why not
       (subst (λ (set : Conf). Grows set history) is_set stands.grows) counted weaves does ends;

@@ -26,7 +26,8 @@ use Rattle.run_deeds.specs.declared.life_end.Why.{Why}
 use Rattle.run_deeds.specs.declared.life_end.Why.TheVariants.{Done, ClockFault}
 use Rattle.run_deeds.specs.Counting.{with_lost, with_quiet}
 use Rattle.run_deeds.specs.Deeds.{Whole}
-use Rattle.run_deeds.specs.Devices.{Faults, IsBehind, NeedsReading, Seen, faults, nothing, seen}
+use Rattle.edge_seen.specs.Seen.{Seen}
+use Rattle.run_deeds.specs.Devices.{Faults, IsBehind, NeedsReading, faults, nothing, living, faults_of}
 use Rattle.run_deeds.specs.Marks.{Reserved}
 use Rattle.run_deeds.specs.Parts.{Part, Tallies, why_of}
 use Rattle.run_deeds.specs.Weaving.{Act, Need, Weaves}
@@ -39,14 +40,14 @@ use Rattle.member_run.proofs.Parting.{part_stops, part_takes}
 -- ---- The reading of an arrival
 
 -- the clock failed
-pub unread : (conf : Conf) (history : History) (event : ℤ → Event) (member : Member) (link : Option (List LinkCall)) (clock clock' : Option (List ClockCall)) (words capture out : Option (List ℕ))
+pub unread : (others : Seen) (conf : Conf) (history : History) (event : ℤ → Event) (member : Member) (link : Option (List LinkCall)) (clock clock' : Option (List ClockCall)) (words capture out : Option (List ℕ))
     (lf cf cf' ef df kf of : ℕ) (end : LifeEnd) (why : Why)
     → conf_of member ≡ conf → StandsForHistory member history → why ≡ ClockFault → clock' ≡ clock → Fails cf cf'
-    → TakesAt conf history event (seen link clock words capture out lf (faults cf ef df kf of)) (seen link clock' words capture out lf (faults cf' ef df kf of)) member end end why
-unread conf history event member link clock clock' words capture out lf cf cf' ef df kf of end why is_set stands is same fails =
+    → TakesAt conf history event (living others link clock words capture out lf (faults cf ef df kf of)) (living others link clock' words capture out lf (faults cf' ef df kf of)) member end end why
+unread others conf history event member link clock clock' words capture out lf cf cf' ef df kf of end why is_set stands is same fails =
     inl (record {
       is_clock = is;
-      does = rw same (does_still conf history link clock words capture out lf (faults cf ef df kf of) (faults cf' ef df kf of));
+      does = rw same (does_still others conf history link clock words capture out lf (faults cf ef df kf of) (faults cf' ef df kf of));
       is_set = is_set;
       stands = stands;
       totals = refl;
@@ -54,12 +55,12 @@ unread conf history event member link clock clock' words capture out lf cf cf' e
     })
 
 -- the event is taken at the reading
-abbrev pub read_takes : (conf : Conf) (history : History) (event : Event) (link : Option (List LinkCall)) (clock clock' : Option (List ClockCall)) (words capture out : Option (List ℕ))
+abbrev pub read_takes : (others : Seen) (conf : Conf) (history : History) (event : Event) (link : Option (List LinkCall)) (clock clock' : Option (List ClockCall)) (words capture out : Option (List ℕ))
     (lf cf cf' ef df kf of : ℕ) (member : Member) (after : Seen) (old new : LifeEnd) (why : Why) (time : ℤ)
     → GaveReadings clock clock' (time ∷ []) → cf' ≡ cf
-    → Takes conf history event [] (seen link clock' words capture out lf (faults cf' ef df kf of)) after member old new why
-    → Takes conf history event (Read time ∷ []) (seen link clock words capture out lf (faults cf ef df kf of)) after member old new why
-read_takes conf history event link clock clock' words capture out lf cf cf' ef df kf of member after old new why time gave read takes =
+    → Takes conf history event [] (living others link clock' words capture out lf (faults cf' ef df kf of)) after member old new why
+    → Takes conf history event (Read time ∷ []) (living others link clock words capture out lf (faults cf ef df kf of)) after member old new why
+read_takes others conf history event link clock clock' words capture out lf cf cf' ef df kf of member after old new why time gave read takes =
     record {
       made = takes.made;
       tried = takes.tried;
@@ -70,32 +71,32 @@ read_takes conf history event link clock clock' words capture out lf cf cf' ef d
       takes = takes.takes;
       acts = takes.acts;
       does = does_then conf history (record { clock = Read time ∷ []; words = []; link = [] }) (record { clock = takes.made; words = []; link = map Send takes.tried }) [] takes.deeds takes.ending
-          (seen link clock words capture out lf (faults cf ef df kf of)) (seen link clock' words capture out lf (faults cf' ef df kf of)) after
-          (does_read conf history link clock clock' words capture out lf (faults cf ef df kf of) (faults cf' ef df kf of) time gave) takes.does;
+          (living others link clock words capture out lf (faults cf ef df kf of)) (living others link clock' words capture out lf (faults cf' ef df kf of)) after
+          (does_read others conf history link clock clock' words capture out lf (faults cf ef df kf of) (faults cf' ef df kf of) time gave) takes.does;
       is_set = takes.is_set;
       stands = takes.stands;
       tallies = takes.tallies;
-      ends = subst (λ (f : Faults). TakeEnds why takes.ending f after.faults) (λ i. faults (read i) ef df kf of) takes.ends;
+      ends = subst (λ (f : Faults). TakeEnds why takes.ending f (faults_of after)) (λ i. faults (read i) ef df kf of) takes.ends;
     }
 
-pub takes_read : (conf : Conf) (history : History) (event : ℤ → Event) (member : Member) (link : Option (List LinkCall)) (clock clock' : Option (List ClockCall)) (words capture out : Option (List ℕ))
+pub takes_read : (others : Seen) (conf : Conf) (history : History) (event : ℤ → Event) (member : Member) (link : Option (List LinkCall)) (clock clock' : Option (List ClockCall)) (words capture out : Option (List ℕ))
     (lf cf cf' ef df kf of : ℕ) (after : Seen) (old new : LifeEnd) (why : Why) (time : ℤ)
     → GaveReadings clock clock' (time ∷ []) → cf' ≡ cf
-    → Takes conf history (event time) [] (seen link clock' words capture out lf (faults cf' ef df kf of)) after member old new why
-    → TakesAt conf history event (seen link clock words capture out lf (faults cf ef df kf of)) after member old new why
-takes_read conf history event member link clock clock' words capture out lf cf cf' ef df kf of after old new why time gave read takes =
-    inr (time, read_takes conf history (event time) link clock clock' words capture out lf cf cf' ef df kf of member after old new why time gave read takes)
+    → Takes conf history (event time) [] (living others link clock' words capture out lf (faults cf' ef df kf of)) after member old new why
+    → TakesAt conf history event (living others link clock words capture out lf (faults cf ef df kf of)) after member old new why
+takes_read others conf history event member link clock clock' words capture out lf cf cf' ef df kf of after old new why time gave read takes =
+    inr (time, read_takes others conf history (event time) link clock clock' words capture out lf cf cf' ef df kf of member after old new why time gave read takes)
 
 -- and leads to this
-pub takes_to : (conf : Conf) (history : History) (event : ℤ → Event) (member : Member) (link : Option (List LinkCall)) (clock clock' : Option (List ClockCall)) (words capture out : Option (List ℕ))
+pub takes_to : (others : Seen) (conf : Conf) (history : History) (event : ℤ → Event) (member : Member) (link : Option (List LinkCall)) (clock clock' : Option (List ClockCall)) (words capture out : Option (List ℕ))
     (lf cf cf' ef df kf of : ℕ) (after : Seen) (old new : LifeEnd) (time : ℤ) (outcome : Outcome)
     → GaveReadings clock clock' (time ∷ []) → cf' ≡ cf
-    → Takes conf history (event time) [] (seen link clock' words capture out lf (faults cf' ef df kf of)) after member old new Done
+    → Takes conf history (event time) [] (living others link clock' words capture out lf (faults cf' ef df kf of)) after member old new Done
     → outcome ≡ outcome_at conf history (event time)
-    → TakesTo conf history event (seen link clock words capture out lf (faults cf ef df kf of)) after member old new outcome
-takes_to conf history event member link clock clock' words capture out lf cf cf' ef df kf of after old new time outcome gave read takes leads = record {
+    → TakesTo conf history event (living others link clock words capture out lf (faults cf ef df kf of)) after member old new outcome
+takes_to others conf history event member link clock clock' words capture out lf cf cf' ef df kf of after old new time outcome gave read takes leads = record {
   time = time;
-  takes = read_takes conf history (event time) link clock clock' words capture out lf cf cf' ef df kf of member after old new Done time gave read takes;
+  takes = read_takes others conf history (event time) link clock clock' words capture out lf cf cf' ef df kf of member after old new Done time gave read takes;
   leads = leads;
 }
 
@@ -117,19 +118,19 @@ unfolding told
 arrival_reserved conf history now from bytes kept was = arrived_reserved now from bytes _ _ kept conf (told conf history) was
 
 -- nothing came
-unfoldable pub quiet_part : (conf : Conf) (from next : Need) (history : History) (member : Member) (link link' : Option (List LinkCall)) (clock : Option (List ClockCall)) (words capture out : Option (List ℕ))
+unfoldable pub quiet_part : (others : Seen) (conf : Conf) (from next : Need) (history : History) (member : Member) (link link' : Option (List LinkCall)) (clock : Option (List ClockCall)) (words capture out : Option (List ℕ))
     (lf lf' : ℕ) (f : Faults) (kept : ℕ) (old : LifeEnd)
     → conf_of member ≡ conf → StandsForHistory member history → Grew link link' (Receive Quiet ∷ []) → ReceiptCounts Quiet lf lf'
     → Weaves conf from history [] [] (Receive Quiet ∷ []) [] next
-    → Part conf from next history (seen link clock words capture out lf f) (seen link' clock words capture out lf' f) member kept kept old (with_quiet old) Done
-quiet_part conf from next history member link link' clock words capture out lf lf' f kept old is_set stands gave counts weaves = record {
+    → Part conf from next history (living others link clock words capture out lf f) (living others link' clock words capture out lf' f) member kept kept old (with_quiet old) Done
+quiet_part others conf from next history member link link' clock words capture out lf lf' f kept old is_set stands gave counts weaves = record {
   runs = record {
     given = record { clock = []; words = []; link = Receive Quiet ∷ [] };
     deeds = [];
     ending = Whole;
     need = next;
     weaves = weaves;
-    does = does_receive conf history link link' clock words capture out lf lf' f Quiet gave counts;
+    does = does_receive others conf history link link' clock words capture out lf lf' f Quiet gave counts;
     taken = [];
     takes = refl;
     grows = subst (λ (set : Conf). Grows set history) is_set stands.grows;
@@ -143,19 +144,19 @@ quiet_part conf from next history member link link' clock words capture out lf l
 }
 
 -- the receive failed
-unfoldable pub lost_part : (conf : Conf) (from next : Need) (history : History) (member : Member) (link link' : Option (List LinkCall)) (clock : Option (List ClockCall)) (words capture out : Option (List ℕ))
+unfoldable pub lost_part : (others : Seen) (conf : Conf) (from next : Need) (history : History) (member : Member) (link link' : Option (List LinkCall)) (clock : Option (List ClockCall)) (words capture out : Option (List ℕ))
     (lf lf' : ℕ) (f : Faults) (kept : ℕ) (old : LifeEnd)
     → conf_of member ≡ conf → StandsForHistory member history → Grew link link' (Receive Failed ∷ []) → ReceiptCounts Failed lf lf'
     → Weaves conf from history [] [] (Receive Failed ∷ []) [] next
-    → Part conf from next history (seen link clock words capture out lf f) (seen link' clock words capture out lf' f) member kept kept old (with_lost old) Done
-lost_part conf from next history member link link' clock words capture out lf lf' f kept old is_set stands gave counts weaves = record {
+    → Part conf from next history (living others link clock words capture out lf f) (living others link' clock words capture out lf' f) member kept kept old (with_lost old) Done
+lost_part others conf from next history member link link' clock words capture out lf lf' f kept old is_set stands gave counts weaves = record {
   runs = record {
     given = record { clock = []; words = []; link = Receive Failed ∷ [] };
     deeds = [];
     ending = Whole;
     need = next;
     weaves = weaves;
-    does = does_receive conf history link link' clock words capture out lf lf' f Failed gave counts;
+    does = does_receive others conf history link link' clock words capture out lf lf' f Failed gave counts;
     taken = [];
     takes = refl;
     grows = subst (λ (set : Conf). Grows set history) is_set stands.grows;
@@ -169,45 +170,45 @@ lost_part conf from next history member link link' clock words capture out lf lf
 }
 
 -- a datagram came, which is taken at the next reading, or the clock failed
-pub got_part : (conf : Conf) (start need next : Need) (history : History) (member : Member) (from : Addr) (bytes : List ℕ) (link link' : Option (List LinkCall)) (clock : Option (List ClockCall)) (words capture out : Option (List ℕ))
+pub got_part : (others : Seen) (conf : Conf) (start need next : Need) (history : History) (member : Member) (from : Addr) (bytes : List ℕ) (link link' : Option (List LinkCall)) (clock : Option (List ClockCall)) (words capture out : Option (List ℕ))
     (lf lf' : ℕ) (f : Faults) (after : Seen) (kept : ℕ) (old new : LifeEnd) (why : Why)
     → Grew link link' (Receive (Got from bytes) ∷ []) → ReceiptCounts (Got from bytes) lf lf' → NeedsReading need
     → Weaves conf start history [] [] (Receive (Got from bytes) ∷ []) [] need
     → ((time : ℤ) (cs : List ClockCall) (ls : List LinkCall) (need : Need) → Weaves conf (Act (outcome_at conf history (Arrive time from bytes)) next) (Arrive time from bytes ∷ history) cs [] ls [] need
     → Weaves conf start history (Read time ∷ cs) [] (Receive (Got from bytes) ∷ ls) (Arrive time from bytes ∷ []) need) → ((time : ℤ) → IsBehind (Arrive time from bytes) next)
-    → TakesAt conf history (λ time. Arrive time from bytes) (seen link' clock words capture out lf' f) after member old new why
-    → Part conf start next history (seen link clock words capture out lf f) after member kept kept old new why
-got_part conf start need next history member from bytes link link' clock words capture out lf lf' f after kept old new why gave counts reading waits weaves behind (inl stops) =
-    let a = seen link clock words capture out lf f in
-    let b = seen link' clock words capture out lf' f in
+    → TakesAt conf history (λ time. Arrive time from bytes) (living others link' clock words capture out lf' f) after member old new why
+    → Part conf start next history (living others link clock words capture out lf f) after member kept kept old new why
+got_part others conf start need next history member from bytes link link' clock words capture out lf lf' f after kept old new why gave counts reading waits weaves behind (inl stops) =
+    let a = living others link clock words capture out lf f in
+    let b = living others link' clock words capture out lf' f in
     let got = Receive (Got from bytes) ∷ [] in
     let counted : Tallies conf history [] got old old = record { sent = refl; moved = refl; refused = refl; quiet = refl; lost = refl; turns = refl; why = refl } in
     rw (stops.is_clock, stops.totals)
     (part_stops conf start need next history (record { clock = []; words = []; link = got }) a after member kept kept old ClockFault
     stops.is_set stops.stands (λ is. cc is) counted waits
     (does_then conf history (record { clock = []; words = []; link = got }) nothing [] [] Whole a b after
-    (does_receive conf history link link' clock words capture out lf lf' f (Got from bytes) gave counts) stops.does)
+    (does_receive others conf history link link' clock words capture out lf lf' f (Got from bytes) gave counts) stops.does)
     (tt, reading, stops.failed))
-got_part conf start need next history member from bytes link link' clock words capture out lf lf' f after kept old new why gave counts reading waits weaves behind (inr (time, takes)) =
-    let a = seen link clock words capture out lf f in
-    let b = seen link' clock words capture out lf' f in
+got_part others conf start need next history member from bytes link link' clock words capture out lf lf' f after kept old new why gave counts reading waits weaves behind (inr (time, takes)) =
+    let a = living others link clock words capture out lf f in
+    let b = living others link' clock words capture out lf' f in
     let got = Receive (Got from bytes) ∷ [] in
     let counted : Tallies conf history [] got old old = record { sent = refl; moved = refl; refused = refl; quiet = refl; lost = refl; turns = refl; why = refl } in
     part_takes conf start next history (Arrive time from bytes) (record { clock = []; words = []; link = got }) (Read time ∷ []) a b after member kept kept old new why
-    (does_receive conf history link link' clock words capture out lf lf' f (Got from bytes) gave counts) counted refl takes (weaves time) (behind time) (arrival_reserved conf history time from bytes kept)
+    (does_receive others conf history link link' clock words capture out lf lf' f (Got from bytes) gave counts) counted refl takes (weaves time) (behind time) (arrival_reserved conf history time from bytes kept)
 
 -- what an arrival answers is what it led to, at the reading that it was taken at
 pub led_to : (result : Result Outcome Why) (old new : Running) (now : ℤ) (from : Addr) (bytes : List ℕ) (link link' : Option (List LinkCall)) (clock clock' clock'' : Option (List ClockCall)) (capture capture' out out' : Option (List ℕ)) (lf lf' cf cf' cf'' kf kf' of of' : ℕ)
     → GaveReadings clock clock' (now ∷ []) → cf' ≡ cf
-    → ((words : Option (List ℕ)) (entropy disk : ℕ) (history : History) → StandsForHistory old.member history
-    → Takes (conf_of old.member) history (Arrive now from bytes) [] (seen link clock' words capture out lf (faults cf' entropy disk kf of))
-    (seen link' clock'' words capture' out' lf' (faults cf'' entropy disk kf' of')) new.member old.totals new.totals (why_of result))
+    → ((others : Seen) (history : History) → StandsForHistory old.member history
+    → Takes (conf_of old.member) history (Arrive now from bytes) [] (living others link clock' others.words capture out lf (faults cf' others.entropy_faults others.disk_faults kf of))
+    (living others link' clock'' others.words capture' out' lf' (faults cf'' others.entropy_faults others.disk_faults kf' of')) new.member old.totals new.totals (why_of result))
     → IfOk result (IsTaken old new (Arrive now from bytes))
-    → IfOk result (λ outcome. (words : Option (List ℕ)) (entropy disk : ℕ) (history : History) → StandsForHistory old.member history
-    → TakesTo (conf_of old.member) history (λ time. Arrive time from bytes) (seen link clock words capture out lf (faults cf entropy disk kf of))
-    (seen link' clock'' words capture' out' lf' (faults cf'' entropy disk kf' of')) new.member old.totals new.totals outcome)
+    → IfOk result (λ outcome. (others : Seen) (history : History) → StandsForHistory old.member history
+    → TakesTo (conf_of old.member) history (λ time. Arrive time from bytes) (living others link clock others.words capture out lf (faults cf others.entropy_faults others.disk_faults kf of))
+    (living others link' clock'' others.words capture' out' lf' (faults cf'' others.entropy_faults others.disk_faults kf' of')) new.member old.totals new.totals outcome)
 led_to (Ok outcome) old new now from bytes link link' clock clock' clock'' capture capture' out out' lf lf' cf cf' cf'' kf kf' of of' gave read takes taken =
-    λ words entropy disk history stands.
-    takes_to (conf_of old.member) history (λ (time : ℤ). Arrive time from bytes) new.member link clock clock' words capture out lf cf cf' entropy disk kf of
-    (seen link' clock'' words capture' out' lf' (faults cf'' entropy disk kf' of')) old.totals new.totals now outcome gave read (takes words entropy disk history stands) (taken.steps history stands).0
+    λ others history stands.
+    takes_to others (conf_of old.member) history (λ (time : ℤ). Arrive time from bytes) new.member link clock clock' others.words capture out lf cf cf' others.entropy_faults others.disk_faults kf of
+    (living others link' clock'' others.words capture' out' lf' (faults cf'' others.entropy_faults others.disk_faults kf' of')) old.totals new.totals now outcome gave read (takes others history stands) (taken.steps history stands).0
 led_to (Err why) old new now from bytes link link' clock clock' clock'' capture capture' out out' lf lf' cf cf' cf'' kf kf' of of' gave read takes taken = tt

@@ -21,7 +21,8 @@ use Rattle.run_deeds.specs.declared.life_end.LifeEnd.{LifeEnd}
 use Rattle.run_deeds.specs.declared.life_end.Why.{Why}
 use Rattle.run_deeds.specs.declared.life_end.Why.TheVariants.{Done, DiskFault, BadVersion, StampsSpent, ClockFault, EntropyFault, SinkFault}
 use Rattle.run_deeds.specs.Deeds.{Whole}
-use Rattle.run_deeds.specs.Devices.{IsBehind, NeedsCount, NeedsDisk, NeedsReading, NeedsWord, Seen, faults, nothing, seen}
+use Rattle.edge_seen.specs.Seen.{Seen}
+use Rattle.run_deeds.specs.Devices.{IsBehind, NeedsCount, NeedsDisk, NeedsReading, NeedsWord, faults, nothing, living}
 use Rattle.run_deeds.specs.Marks.{Reserved, asks, last_count}
 use Rattle.run_deeds.specs.Parts.{Part}
 use Rattle.run_deeds.specs.Weaving.{Act, Need, Call, Round, Weaves, behind_request, none}
@@ -32,68 +33,68 @@ use Rattle.member_run.specs.Taking.{Takes}
 use Rattle.member_run.proofs.Parting.{part_stops, part_takes}
 
 -- no count could be reserved
-pub no_count : (conf : Conf) (from next : Need) (history : History) (member : Member) (link : Option (List LinkCall)) (clock : Option (List ClockCall)) (words capture out : Option (List ℕ))
+pub no_count : (others : Seen) (conf : Conf) (from next : Need) (history : History) (member : Member) (link : Option (List LinkCall)) (clock : Option (List ClockCall)) (words capture out : Option (List ℕ))
     (lf cf ef df df' kf of kept kept' : ℕ) (end : LifeEnd) (why : Why)
     → conf_of member ≡ conf → StandsForHistory member history → NeedsCount from → NeedsDisk from → BlamedBy why df df' → why ≢ BadVersion
-    → Part conf from next history (seen link clock words capture out lf (faults cf ef df kf of)) (seen link clock words capture out lf (faults cf ef df' kf of)) member kept kept' end end why
-no_count conf from next history member link clock words capture out lf cf ef df df' kf of kept kept' end DiskFault is_set stands count disk blamed other =
-    part_stops conf from from next history nothing (seen link clock words capture out lf (faults cf ef df kf of)) (seen link clock words capture out lf (faults cf ef df' kf of)) member kept kept' end DiskFault
+    → Part conf from next history (living others link clock words capture out lf (faults cf ef df kf of)) (living others link clock words capture out lf (faults cf ef df' kf of)) member kept kept' end end why
+no_count others conf from next history member link clock words capture out lf cf ef df df' kf of kept kept' end DiskFault is_set stands count disk blamed other =
+    part_stops conf from from next history nothing (living others link clock words capture out lf (faults cf ef df kf of)) (living others link clock words capture out lf (faults cf ef df' kf of)) member kept kept' end DiskFault
     is_set stands (λ is. cc is) (tallies_none conf history end) none
-    (does_still conf history link clock words capture out lf (faults cf ef df kf of) (faults cf ef df' kf of)) (tt, disk, (blamed, refl))
-no_count conf from next history member link clock words capture out lf cf ef df df' kf of kept kept' end StampsSpent is_set stands count disk blamed other =
-    part_stops conf from from next history nothing (seen link clock words capture out lf (faults cf ef df kf of)) (seen link clock words capture out lf (faults cf ef df' kf of)) member kept kept' end StampsSpent
+    (does_still others conf history link clock words capture out lf (faults cf ef df kf of) (faults cf ef df' kf of)) (tt, disk, (blamed, refl))
+no_count others conf from next history member link clock words capture out lf cf ef df df' kf of kept kept' end StampsSpent is_set stands count disk blamed other =
+    part_stops conf from from next history nothing (living others link clock words capture out lf (faults cf ef df kf of)) (living others link clock words capture out lf (faults cf ef df' kf of)) member kept kept' end StampsSpent
     is_set stands (λ is. cc is) (tallies_none conf history end) none
-    (does_still conf history link clock words capture out lf (faults cf ef df kf of) (faults cf ef df' kf of)) (tt, count, λ i. faults cf ef (blamed i) kf of)
-no_count conf from next history member link clock words capture out lf cf ef df df' kf of kept kept' end BadVersion is_set stands count disk blamed other = absurd (other refl)
-no_count conf from next history member link clock words capture out lf cf ef df df' kf of kept kept' end Done is_set stands count disk blamed other = absurd blamed
-no_count conf from next history member link clock words capture out lf cf ef df df' kf of kept kept' end ClockFault is_set stands count disk blamed other = absurd blamed
-no_count conf from next history member link clock words capture out lf cf ef df df' kf of kept kept' end EntropyFault is_set stands count disk blamed other = absurd blamed
-no_count conf from next history member link clock words capture out lf cf ef df df' kf of kept kept' end SinkFault is_set stands count disk blamed other = absurd blamed
+    (does_still others conf history link clock words capture out lf (faults cf ef df kf of) (faults cf ef df' kf of)) (tt, count, λ i. faults cf ef (blamed i) kf of)
+no_count others conf from next history member link clock words capture out lf cf ef df df' kf of kept kept' end BadVersion is_set stands count disk blamed other = absurd (other refl)
+no_count others conf from next history member link clock words capture out lf cf ef df df' kf of kept kept' end Done is_set stands count disk blamed other = absurd blamed
+no_count others conf from next history member link clock words capture out lf cf ef df df' kf of kept kept' end ClockFault is_set stands count disk blamed other = absurd blamed
+no_count others conf from next history member link clock words capture out lf cf ef df df' kf of kept kept' end EntropyFault is_set stands count disk blamed other = absurd blamed
+no_count others conf from next history member link clock words capture out lf cf ef df df' kf of kept kept' end SinkFault is_set stands count disk blamed other = absurd blamed
 
 -- the clock failed
-pub no_reading : (conf : Conf) (from next : Need) (history : History) (member : Member) (link : Option (List LinkCall)) (clock clock' : Option (List ClockCall)) (words capture out : Option (List ℕ))
+pub no_reading : (others : Seen) (conf : Conf) (from next : Need) (history : History) (member : Member) (link : Option (List LinkCall)) (clock clock' : Option (List ClockCall)) (words capture out : Option (List ℕ))
     (lf cf cf' ef df df' kf of kept kept' : ℕ) (end : LifeEnd) (why : Why)
     → conf_of member ≡ conf → StandsForHistory member history → NeedsReading from → why ≡ ClockFault → clock' ≡ clock → Fails cf cf' → df' ≡ df
-    → Part conf from next history (seen link clock words capture out lf (faults cf ef df kf of)) (seen link clock' words capture out lf (faults cf' ef df' kf of)) member kept kept' end end why
-no_reading conf from next history member link clock clock' words capture out lf cf cf' ef df df' kf of kept kept' end why is_set stands reading is same fails disk =
+    → Part conf from next history (living others link clock words capture out lf (faults cf ef df kf of)) (living others link clock' words capture out lf (faults cf' ef df' kf of)) member kept kept' end end why
+no_reading others conf from next history member link clock clock' words capture out lf cf cf' ef df df' kf of kept kept' end why is_set stands reading is same fails disk =
     rw (is, same)
-    (part_stops conf from from next history nothing (seen link clock words capture out lf (faults cf ef df kf of)) (seen link clock words capture out lf (faults cf' ef df' kf of)) member kept kept' end ClockFault
+    (part_stops conf from from next history nothing (living others link clock words capture out lf (faults cf ef df kf of)) (living others link clock words capture out lf (faults cf' ef df' kf of)) member kept kept' end ClockFault
     is_set stands (λ is. cc is) (tallies_none conf history end) none
-    (does_still conf history link clock words capture out lf (faults cf ef df kf of) (faults cf' ef df' kf of)) (tt, reading, (fails, λ i. faults cf' ef (disk i) kf of)))
+    (does_still others conf history link clock words capture out lf (faults cf ef df kf of) (faults cf' ef df' kf of)) (tt, reading, (fails, λ i. faults cf' ef (disk i) kf of)))
 
 -- a reading was given, and no word
-pub no_word : (conf : Conf) (from need next : Need) (history : History) (member : Member) (link : Option (List LinkCall)) (clock clock' : Option (List ClockCall)) (words words' capture out : Option (List ℕ))
+pub no_word : (others : Seen) (conf : Conf) (from need next : Need) (history : History) (member : Member) (link : Option (List LinkCall)) (clock clock' : Option (List ClockCall)) (words words' capture out : Option (List ℕ))
     (lf cf cf' ef ef' df df' kf of kept kept' : ℕ) (end : LifeEnd) (why : Why) (now : ℤ)
     → conf_of member ≡ conf → StandsForHistory member history → NeedsWord need → Weaves conf from history (Read now ∷ []) [] [] [] need
     → why ≡ EntropyFault → GaveReadings clock clock' (now ∷ []) → cf' ≡ cf → words' ≡ words → Fails ef ef' → df' ≡ df
-    → Part conf from next history (seen link clock words capture out lf (faults cf ef df kf of)) (seen link clock' words' capture out lf (faults cf' ef' df' kf of)) member kept kept' end end why
-no_word conf from need next history member link clock clock' words words' capture out lf cf cf' ef ef' df df' kf of kept kept' end why now is_set stands word weaves is gave read same fails disk =
+    → Part conf from next history (living others link clock words capture out lf (faults cf ef df kf of)) (living others link clock' words' capture out lf (faults cf' ef' df' kf of)) member kept kept' end end why
+no_word others conf from need next history member link clock clock' words words' capture out lf cf cf' ef ef' df df' kf of kept kept' end why now is_set stands word weaves is gave read same fails disk =
     rw (is, same)
     (part_stops conf from need next history (record { clock = Read now ∷ []; words = []; link = [] })
-    (seen link clock words capture out lf (faults cf ef df kf of)) (seen link clock' words capture out lf (faults cf' ef' df' kf of)) member kept kept' end EntropyFault
+    (living others link clock words capture out lf (faults cf ef df kf of)) (living others link clock' words capture out lf (faults cf' ef' df' kf of)) member kept kept' end EntropyFault
     is_set stands (λ is. cc is) (tallies_none conf history end) weaves
-    (does_read conf history link clock clock' words capture out lf (faults cf ef df kf of) (faults cf' ef' df' kf of) now gave)
+    (does_read others conf history link clock clock' words capture out lf (faults cf ef df kf of) (faults cf' ef' df' kf of) now gave)
     (tt, word, (fails, λ i. faults (read i) ef' (disk i) kf of)))
 
 -- both were given, and the event is taken
-pub takes_drawn : (conf : Conf) (from next : Need) (history : History) (event : Event) (member : Member) (link : Option (List LinkCall)) (clock clock' : Option (List ClockCall)) (words words' capture out : Option (List ℕ))
+pub takes_drawn : (others : Seen) (conf : Conf) (from next : Need) (history : History) (event : Event) (member : Member) (link : Option (List LinkCall)) (clock clock' : Option (List ClockCall)) (words words' capture out : Option (List ℕ))
     (lf cf cf' ef ef' df df' kf of : ℕ) (after : Seen) (kept kept' : ℕ) (old new : LifeEnd) (why : Why) (now : ℤ) (word : ℕ)
     → GaveReadings clock clock' (now ∷ []) → cf' ≡ cf → Added words words' (word ∷ []) → ef' ≡ ef → df' ≡ df
-    → Takes conf history event [] (seen link clock' words' capture out lf (faults cf' ef' df' kf of)) after member old new why
+    → Takes conf history event [] (living others link clock' words' capture out lf (faults cf' ef' df' kf of)) after member old new why
     → ((cs : List ClockCall) (ls : List LinkCall) (need : Need) → Weaves conf (Act (outcome_at conf history event) next) (event ∷ history) cs [] ls [] need
     → Weaves conf from history (Read now ∷ cs) (word ∷ []) ls (event ∷ []) need) → IsBehind event next
     → (Reserved kept (told conf history) → Reserved kept' (told conf (event ∷ history)))
-    → Part conf from next history (seen link clock words capture out lf (faults cf ef df kf of)) after member kept kept' old new why
-takes_drawn conf from next history event member link clock clock' words words' capture out lf cf cf' ef ef' df df' kf of after kept kept' old new why now word gave read gave_word drew disk takes weaves behind reserved =
+    → Part conf from next history (living others link clock words capture out lf (faults cf ef df kf of)) after member kept kept' old new why
+takes_drawn others conf from next history event member link clock clock' words words' capture out lf cf cf' ef ef' df df' kf of after kept kept' old new why now word gave read gave_word drew disk takes weaves behind reserved =
     let begin = faults cf ef df kf of in
     let quiet = faults cf' ef' df' kf of in
-    let a = seen link clock words capture out lf begin in
-    let b = seen link clock' words capture out lf begin in
-    let c = seen link clock' words' capture out lf quiet in
+    let a = living others link clock words capture out lf begin in
+    let b = living others link clock' words capture out lf begin in
+    let c = living others link clock' words' capture out lf quiet in
     part_takes conf from next history event (record { clock = Read now ∷ []; words = word ∷ []; link = [] }) [] a c after member kept kept' old new why
     (does_then conf history (record { clock = Read now ∷ []; words = []; link = [] }) (record { clock = []; words = word ∷ []; link = [] }) [] [] Whole a b c
-    (does_read conf history link clock clock' words capture out lf begin begin now gave)
-    (does_draw conf history link clock' words words' capture out lf begin quiet word gave_word))
+    (does_read others conf history link clock clock' words capture out lf begin begin now gave)
+    (does_draw others conf history link clock' words words' capture out lf begin quiet word gave_word))
     (tallies_none conf history old) (λ i. faults (read i) (drew i) (disk i) kf of) takes weaves behind reserved
 
 -- behind the Resync of a call comes its round, or another call

@@ -25,7 +25,8 @@ use Rattle.run_deeds.specs.declared.life_end.Why.TheVariants.{Done, ClockFault}
 use Rattle.run_deeds.specs.Counting.{with_lost, with_quiet}
 use Rattle.run_deeds.specs.Weaving.{Act, Need, Call, Round, RoundReading, Weaves, none, round_gets, round_quiet, round_lost, round_arrives, behind_arrival, followed_by, round_of}
 use Rattle.run_deeds.specs.Deeds.{Deed, Take, Ending, Whole, NoRecord, NoLine, IsWhole, along, all_done, history_after}
-use Rattle.run_deeds.specs.Devices.{Faults, IsBehind, LifeEndsBy, Seen, faults, nothing, seen}
+use Rattle.edge_seen.specs.Seen.{Seen}
+use Rattle.run_deeds.specs.Devices.{Faults, IsBehind, LifeEndsBy, faults, nothing, living, faults_of}
 use Rattle.run_deeds.specs.Parts.{Part, Runs, Tallies}
 use Rattle.run_deeds.specs.Rounds.{RoundAnswers, is_moved, is_too_big, outcomes_in, round_result}
 use Rattle.run_deeds.proofs.Deeding.{along-append}
@@ -131,8 +132,8 @@ stepped_at conf from mid next history a b c m m' k0 k1 k2 old between new why ou
         stands = subst (λ (h : History). StandsForHistory m' h) (sym all.1) second.part.stands;
       };
       outs = λ is.
-          let whole : IsWhole t.ending = (subst (λ (w : Why). LifeEndsBy w t.ending t.need a.faults c.faults) is t.ends).0 in
-          let whole' : IsWhole s.ending = (subst (λ (w : Why). LifeEndsBy w s.ending s.need b.faults c.faults) is s.ends).0 in
+          let whole : IsWhole t.ending = (subst (λ (w : Why). LifeEndsBy w t.ending t.need (faults_of a) (faults_of c)) is t.ends).0 in
+          let whole' : IsWhole s.ending = (subst (λ (w : Why). LifeEndsBy w s.ending s.need (faults_of b) (faults_of c)) is s.ends).0 in
           let first : later ≡ followed_by history r.taken = taken_history history r.deeds r.ending r.taken r.takes in
           let led : followed_by history t.taken ≡ followed_by history (r.taken ++ s.taken) =
           sym (taken_history history t.deeds t.ending t.taken t.takes) ∙ all.1 ∙ taken_history later s.deeds s.ending s.taken s.takes
@@ -161,21 +162,21 @@ stepped_then conf from mid next history a b c m m' k0 k1 k2 old between new why 
 round_left : (k : ℕ) → round_of (suc k) ≡ Round (suc k)
 round_left k = ap (λ (b : Bool). if b then Call else Round (suc k)) (let more : (suc k == 0) ≡ false = grind (arith, nat_tests) in more)
 
-pub quiet_step : (conf : Conf) (k : ℕ) (history : History) (member : Member) (link link' : Option (List LinkCall)) (clock : Option (List ClockCall)) (words capture out : Option (List ℕ)) (lf lf' : ℕ) (f : Faults) (kept : ℕ) (old : LifeEnd)
+pub quiet_step : (others : Seen) (conf : Conf) (k : ℕ) (history : History) (member : Member) (link link' : Option (List LinkCall)) (clock : Option (List ClockCall)) (words capture out : Option (List ℕ)) (lf lf' : ℕ) (f : Faults) (kept : ℕ) (old : LifeEnd)
     → conf_of member ≡ conf → StandsForHistory member history → Grew link link' (Receive Quiet ∷ []) → ReceiptCounts Quiet lf lf'
-    → Stepped conf (Round (suc k)) Call history (seen link clock words capture out lf f) (seen link' clock words capture out lf' f) member kept kept old (with_quiet old) Done []
+    → Stepped conf (Round (suc k)) Call history (living others link clock words capture out lf f) (living others link' clock words capture out lf' f) member kept kept old (with_quiet old) Done []
 unfolding quiet_part
-quiet_step conf k history member link link' clock words capture out lf lf' f kept old is_set stands gave counts = record {
-  part = quiet_part conf (Round (suc k)) Call history member link link' clock words capture out lf lf' f kept old is_set stands gave counts (round_quiet none);
+quiet_step others conf k history member link link' clock words capture out lf lf' f kept old is_set stands gave counts = record {
+  part = quiet_part others conf (Round (suc k)) Call history member link link' clock words capture out lf lf' f kept old is_set stands gave counts (round_quiet none);
   outs = λ is. refl;
 }
 
-pub lost_step : (conf : Conf) (k : ℕ) (history : History) (member : Member) (link link' : Option (List LinkCall)) (clock : Option (List ClockCall)) (words capture out : Option (List ℕ)) (lf lf' : ℕ) (f : Faults) (kept : ℕ) (old : LifeEnd)
+pub lost_step : (others : Seen) (conf : Conf) (k : ℕ) (history : History) (member : Member) (link link' : Option (List LinkCall)) (clock : Option (List ClockCall)) (words capture out : Option (List ℕ)) (lf lf' : ℕ) (f : Faults) (kept : ℕ) (old : LifeEnd)
     → conf_of member ≡ conf → StandsForHistory member history → Grew link link' (Receive Failed ∷ []) → ReceiptCounts Failed lf lf'
-    → Stepped conf (Round (suc k)) (round_of k) history (seen link clock words capture out lf f) (seen link' clock words capture out lf' f) member kept kept old (with_lost old) Done []
+    → Stepped conf (Round (suc k)) (round_of k) history (living others link clock words capture out lf f) (living others link' clock words capture out lf' f) member kept kept old (with_lost old) Done []
 unfolding lost_part
-lost_step conf k history member link link' clock words capture out lf lf' f kept old is_set stands gave counts = record {
-  part = lost_part conf (Round (suc k)) (round_of k) history member link link' clock words capture out lf lf' f kept old is_set stands gave counts (round_lost none);
+lost_step others conf k history member link link' clock words capture out lf lf' f kept old is_set stands gave counts = record {
+  part = lost_part others conf (Round (suc k)) (round_of k) history member link link' clock words capture out lf lf' f kept old is_set stands gave counts (round_lost none);
   outs = λ is. refl;
 }
 
@@ -193,35 +194,35 @@ arrival_behind : (time : ℤ) (from : Addr) (bytes : List ℕ) (k : ℕ) (outcom
 arrival_behind time from bytes k outcome = arrive_behind time from bytes (is_some (offset_moved outcome)) (k == 0) k
 
 -- with which an arrival is taken, whichever call ends it
-got_runs : (conf : Conf) (k : ℕ) (history : History) (member : Member) (from : Addr) (bytes : List ℕ) (link link' : Option (List LinkCall)) (clock : Option (List ClockCall)) (words capture out : Option (List ℕ)) (lf lf' : ℕ) (f : Faults) (after : Seen) (kept : ℕ) (old new : LifeEnd) (why : Why) (time : ℤ)
+got_runs : (others : Seen) (conf : Conf) (k : ℕ) (history : History) (member : Member) (from : Addr) (bytes : List ℕ) (link link' : Option (List LinkCall)) (clock : Option (List ClockCall)) (words capture out : Option (List ℕ)) (lf lf' : ℕ) (f : Faults) (after : Seen) (kept : ℕ) (old new : LifeEnd) (why : Why) (time : ℤ)
     → Grew link link' (Receive (Got from bytes) ∷ []) → ReceiptCounts (Got from bytes) lf lf'
-    → (takes : Takes conf history (Arrive time from bytes) (Read time ∷ []) (seen link' clock words capture out lf' f) after member old new why)
+    → (takes : Takes conf history (Arrive time from bytes) (Read time ∷ []) (living others link' clock words capture out lf' f) after member old new why)
     → (next : Need) → behind_arrival k (outcome_at conf history (Arrive time from bytes)) ≡ next
-    → Runs conf (Round (suc k)) next history (seen link clock words capture out lf f) after kept kept old new why
-got_runs conf k history member from bytes link link' clock words capture out lf lf' f after kept old new why time gave counts takes next behind =
+    → Runs conf (Round (suc k)) next history (living others link clock words capture out lf f) after kept kept old new why
+got_runs others conf k history member from bytes link link' clock words capture out lf lf' f after kept old new why time gave counts takes next behind =
     let got = Receive (Got from bytes) ∷ [] in
-    let a = seen link clock words capture out lf f in
-    let b = seen link' clock words capture out lf' f in
+    let a = living others link clock words capture out lf f in
+    let b = living others link' clock words capture out lf' f in
     let outcome = outcome_at conf history (Arrive time from bytes) in
     let B : Need → Type 0 = λ (n : Need). IsBehind (Arrive time from bytes) n in
     runs_takes conf (Round (suc k)) next history (Arrive time from bytes) (record { clock = []; words = []; link = got }) (Read time ∷ []) a b after member kept kept old new why
-    (does_receive conf history link link' clock words capture out lf lf' f (Got from bytes) gave counts) (got_tallies conf history from bytes old) refl takes
+    (does_receive others conf history link link' clock words capture out lf lf' f (Got from bytes) gave counts) (got_tallies conf history from bytes old) refl takes
     (λ cs ls need s. round_gets (round_arrives (subst (λ (n : Need). Weaves conf (Act outcome n) (Arrive time from bytes ∷ history) cs [] ls [] need) (sym behind) s)))
     (subst B behind (arrival_behind time from bytes k outcome)) (λ is. arrival_reserved conf history time from bytes kept)
 
-pub got_step : (conf : Conf) (k : ℕ) (history : History) (member : Member) (from : Addr) (bytes : List ℕ) (link link' : Option (List LinkCall)) (clock : Option (List ClockCall)) (words capture out : Option (List ℕ)) (lf lf' : ℕ) (f : Faults) (after : Seen) (kept : ℕ) (old new : LifeEnd) (outcome : Outcome) (next : Need)
+pub got_step : (others : Seen) (conf : Conf) (k : ℕ) (history : History) (member : Member) (from : Addr) (bytes : List ℕ) (link link' : Option (List LinkCall)) (clock : Option (List ClockCall)) (words capture out : Option (List ℕ)) (lf lf' : ℕ) (f : Faults) (after : Seen) (kept : ℕ) (old new : LifeEnd) (outcome : Outcome) (next : Need)
     → Grew link link' (Receive (Got from bytes) ∷ []) → ReceiptCounts (Got from bytes) lf lf'
-    → TakesTo conf history (λ time. Arrive time from bytes) (seen link' clock words capture out lf' f) after member old new outcome
+    → TakesTo conf history (λ time. Arrive time from bytes) (living others link' clock words capture out lf' f) after member old new outcome
     → behind_arrival k outcome ≡ next
-    → Stepped conf (Round (suc k)) next history (seen link clock words capture out lf f) after member kept kept old new Done (outcome ∷ [])
+    → Stepped conf (Round (suc k)) next history (living others link clock words capture out lf f) after member kept kept old new Done (outcome ∷ [])
 unfolding got_runs
-got_step conf k history member from bytes link link' clock words capture out lf lf' f after kept old new outcome next gave counts to behind =
+got_step others conf k history member from bytes link link' clock words capture out lf lf' f after kept old new outcome next gave counts to behind =
     let t = to.takes in
     let event = Arrive to.time from bytes in
     let taken : t.taken ≡ event ∷ [] = sym (whole_given t.deeds t.ending t.taken t.ends.0 t.takes) ∙ t.events in
     record {
       part = record {
-        runs = got_runs conf k history member from bytes link link' clock words capture out lf lf' f after kept old new Done to.time gave counts t next (ap (behind_arrival k) (sym to.leads) ∙ behind);
+        runs = got_runs others conf k history member from bytes link link' clock words capture out lf lf' f after kept old new Done to.time gave counts t next (ap (behind_arrival k) (sym to.leads) ∙ behind);
         is_set = t.is_set;
         stands = t.stands;
       };
@@ -231,30 +232,30 @@ got_step conf k history member from bytes link link' clock words capture out lf 
     }
 
 -- and the run ends
-pub fault_step : (conf : Conf) (k : ℕ) (history : History) (member : Member) (from : Addr) (bytes : List ℕ) (link link' : Option (List LinkCall)) (clock : Option (List ClockCall)) (words capture out : Option (List ℕ)) (lf lf' : ℕ) (f : Faults) (after : Seen) (kept : ℕ) (old new : LifeEnd) (why : Why) → why ≢ Done
+pub fault_step : (others : Seen) (conf : Conf) (k : ℕ) (history : History) (member : Member) (from : Addr) (bytes : List ℕ) (link link' : Option (List LinkCall)) (clock : Option (List ClockCall)) (words capture out : Option (List ℕ)) (lf lf' : ℕ) (f : Faults) (after : Seen) (kept : ℕ) (old new : LifeEnd) (why : Why) → why ≢ Done
     → Grew link link' (Receive (Got from bytes) ∷ []) → ReceiptCounts (Got from bytes) lf lf'
-    → TakesAt conf history (λ time. Arrive time from bytes) (seen link' clock words capture out lf' f) after member old new why
-    → Stepped conf (Round (suc k)) Call history (seen link clock words capture out lf f) after member kept kept old new why []
+    → TakesAt conf history (λ time. Arrive time from bytes) (living others link' clock words capture out lf' f) after member old new why
+    → Stepped conf (Round (suc k)) Call history (living others link clock words capture out lf f) after member kept kept old new why []
 unfolding got_runs
-fault_step conf k history member from bytes link link' clock words capture out lf lf' f after kept old new why not gave counts (inl stops) =
+fault_step others conf k history member from bytes link link' clock words capture out lf lf' f after kept old new why not gave counts (inl stops) =
     let got = Receive (Got from bytes) ∷ [] in
-    let a = seen link clock words capture out lf f in
-    let b = seen link' clock words capture out lf' f in
+    let a = living others link clock words capture out lf f in
+    let b = living others link' clock words capture out lf' f in
     record {
       part = rw (stops.is_clock, stops.totals)
           (part_stops conf (Round (suc k)) (RoundReading k from bytes) Call history (record { clock = []; words = []; link = got }) a after member kept kept old ClockFault
           stops.is_set stops.stands (λ is. let bad : ⊥ = cc in bad) (got_tallies conf history from bytes old) (round_gets none)
           (does_then conf history (record { clock = []; words = []; link = got }) nothing [] [] Whole a b after
-          (does_receive conf history link link' clock words capture out lf lf' f (Got from bytes) gave counts) stops.does)
+          (does_receive others conf history link link' clock words capture out lf lf' f (Got from bytes) gave counts) stops.does)
           (tt, tt, stops.failed));
       outs = λ is. absurd (not is);
     }
-fault_step conf k history member from bytes link link' clock words capture out lf lf' f after kept old new why not gave counts (inr (time, takes)) =
+fault_step others conf k history member from bytes link link' clock words capture out lf lf' f after kept old new why not gave counts (inr (time, takes)) =
     let next = behind_arrival k (outcome_at conf history (Arrive time from bytes)) in
     record {
-      part = part_short conf (Round (suc k)) next Call history (seen link clock words capture out lf f) after member kept kept old new why not
+      part = part_short conf (Round (suc k)) next Call history (living others link clock words capture out lf f) after member kept kept old new why not
           (record {
-            runs = got_runs conf k history member from bytes link link' clock words capture out lf lf' f after kept old new why time gave counts takes next refl;
+            runs = got_runs others conf k history member from bytes link link' clock words capture out lf lf' f after kept old new why time gave counts takes next refl;
             is_set = takes.is_set;
             stands = takes.stands;
           });
@@ -311,8 +312,8 @@ pub record Rounds (taken : ℕ) (old new : Running) (result : ℕ) (link link' :
   pub sum : taken + left ≡ 16
   pub begun : IsBegun new
   pub none : SendsNone old new
-  pub round : (words : Option (List ℕ)) (entropy disk : ℕ) (history : History) → StandsForHistory (member_of old) history
-      → Rounded left history old new (seen link clock words capture out lf (faults cf entropy disk kf of)) (seen link' clock' words capture' out' lf' (faults cf' entropy disk kf' of')) result
+  pub round : (others : Seen) (history : History) → StandsForHistory (member_of old) history
+      → Rounded left history old new (living others link clock others.words capture out lf (faults cf others.entropy_faults others.disk_faults kf of)) (living others link' clock' others.words capture' out' lf' (faults cf' others.entropy_faults others.disk_faults kf' of')) result
 
 sends_same : (running : Running) → SendsNone running running
 sends_same running = record { keeper = refl; last = refl; greatest = refl }
@@ -327,24 +328,24 @@ rounds_none running link clock capture out lf cf kf of begun = record {
   sum = refl;
   begun = begun;
   none = sends_same running;
-  round = λ words entropy disk history stands. rounded_none history running (seen link clock words capture out lf (faults cf entropy disk kf of)) stands;
+  round = λ others history stands. rounded_none history running (living others link clock others.words capture out lf (faults cf others.entropy_faults others.disk_faults kf of)) stands;
 }
 
 module _ (done : ℕ) (old mid : Running) (result : ℕ) (l0 l1 l2 : Option (List LinkCall)) (c0 c1 : Option (List ClockCall)) (k0 k1 o0 o1 : Option (List ℕ)) (lf0 lf1 lf2 cf0 cf1 kf0 kf1 of0 of1 : ℕ)
     (below : done < 16) (was : Rounds done old mid result l0 l1 c0 c1 k0 k1 o0 o1 lf0 lf1 cf0 cf1 kf0 kf1 of0 of1) where
   -- what was said of the receipts before
-  earlier : (k : ℕ) → was.left ≡ suc k → (words : Option (List ℕ)) (entropy disk : ℕ) (history : History) → StandsForHistory (member_of old) history
-      → Rounded (suc k) history old mid (seen l0 c0 words k0 o0 lf0 (faults cf0 entropy disk kf0 of0)) (seen l1 c1 words k1 o1 lf1 (faults cf1 entropy disk kf1 of1)) result
-  earlier k is words entropy disk history stands =
-      let P : ℕ → Type 0 = λ (left : ℕ). Rounded left history old mid (seen l0 c0 words k0 o0 lf0 (faults cf0 entropy disk kf0 of0)) (seen l1 c1 words k1 o1 lf1 (faults cf1 entropy disk kf1 of1)) result in
-      subst P is (was.round words entropy disk history stands)
+  earlier : (k : ℕ) → was.left ≡ suc k → (others : Seen) (history : History) → StandsForHistory (member_of old) history
+      → Rounded (suc k) history old mid (living others l0 c0 others.words k0 o0 lf0 (faults cf0 others.entropy_faults others.disk_faults kf0 of0)) (living others l1 c1 others.words k1 o1 lf1 (faults cf1 others.entropy_faults others.disk_faults kf1 of1)) result
+  earlier k is others history stands =
+      let P : ℕ → Type 0 = λ (left : ℕ). Rounded left history old mid (living others l0 c0 others.words k0 o0 lf0 (faults cf0 others.entropy_faults others.disk_faults kf0 of0)) (living others l1 c1 others.words k1 o1 lf1 (faults cf1 others.entropy_faults others.disk_faults kf1 of1)) result in
+      subst P is (was.round others history stands)
 
   -- an arrival that was not accepted
   pub rounds_got : (new : Running) (result' : ℕ) (from : Addr) (bytes : List ℕ) (outcome : Outcome) (l3 : Option (List LinkCall)) (c2 : Option (List ClockCall)) (k2 o2 : Option (List ℕ)) (lf3 cf2 kf2 of2 : ℕ)
       → Grew l1 l2 (Receive (Got from bytes) ∷ []) → ReceiptCounts (Got from bytes) lf1 lf2
-      → ((words : Option (List ℕ)) (entropy disk : ℕ) (history : History) → StandsForHistory (member_of mid) history
-      → TakesTo (conf_of (member_of mid)) history (λ time. Arrive time from bytes) (seen l2 c1 words k1 o1 lf2 (faults cf1 entropy disk kf1 of1))
-      (seen l3 c2 words k2 o2 lf3 (faults cf2 entropy disk kf2 of2)) (member_of new) (totals_of mid) (totals_of new) outcome)
+      → ((others : Seen) (history : History) → StandsForHistory (member_of mid) history
+      → TakesTo (conf_of (member_of mid)) history (λ time. Arrive time from bytes) (living others l2 c1 others.words k1 o1 lf2 (faults cf1 others.entropy_faults others.disk_faults kf1 of1))
+      (living others l3 c2 others.words k2 o2 lf3 (faults cf2 others.entropy_faults others.disk_faults kf2 of2)) (member_of new) (totals_of mid) (totals_of new) outcome)
       → IsBegun new → SendsNone mid new → is_moved outcome ≡ false → ((came : List Outcome) → Results came result → Results (came ++ outcome ∷ []) result')
       → Rounds (done + 1) old new result' l0 l3 c0 c2 k0 k2 o0 o2 lf0 lf3 cf0 cf2 kf0 kf2 of0 of2
   rounds_got new result' from bytes outcome l3 c2 k2 o2 lf3 cf2 kf2 of2 gave counts leads begun sends moved results =
@@ -356,15 +357,15 @@ module _ (done : ℕ) (old mid : Running) (result : ℕ) (l0 l1 l2 : Option (Lis
         sum = omega (arith, was.sum, one.1);
         begun = begun;
         none = sends_then old mid new was.none sends;
-        round = λ words entropy disk history stands.
-            let before = earlier k one.1 words entropy disk history stands in
+        round = λ others history stands.
+            let before = earlier k one.1 others history stands in
             record {
               came = before.came ++ outcome ∷ [];
               step = rounded_then k history old mid _ _ _ (member_of new) (totals_of new) Done result (round_of k) (outcome ∷ []) before
                   (λ later stood.
-                  got_step (conf_of (member_of mid)) k later (member_of new) from bytes l1 l2 c1 words k1 o1 lf1 lf2 (faults cf1 entropy disk kf1 of1)
-                  (seen l3 c2 words k2 o2 lf3 (faults cf2 entropy disk kf2 of2)) (kept_of old) (totals_of mid) (totals_of new) outcome (round_of k) gave counts
-                  (leads words entropy disk later stood) behind);
+                  got_step others (conf_of (member_of mid)) k later (member_of new) from bytes l1 l2 c1 others.words k1 o1 lf1 lf2 (faults cf1 others.entropy_faults others.disk_faults kf1 of1)
+                  (living others l3 c2 others.words k2 o2 lf3 (faults cf2 others.entropy_faults others.disk_faults kf2 of2)) (kept_of old) (totals_of mid) (totals_of new) outcome (round_of k) gave counts
+                  (leads others later stood) behind);
               results = results before.came before.results;
             };
       }
@@ -380,12 +381,12 @@ module _ (done : ℕ) (old mid : Running) (result : ℕ) (l0 l1 l2 : Option (Lis
         sum = omega (arith, was.sum, one.1);
         begun = record { history = was.begun.history; stands = was.begun.stands; begun = was.begun.begun; last = was.begun.last; greatest = was.begun.greatest };
         none = record { keeper = was.none.keeper; last = was.none.last; greatest = was.none.greatest };
-        round = λ words entropy disk history stands.
-            let before = earlier k one.1 words entropy disk history stands in
+        round = λ others history stands.
+            let before = earlier k one.1 others history stands in
             record {
               came = before.came ++ [];
               step = rounded_then k history old mid _ _ _ (member_of mid) (with_lost mid.totals) Done result (round_of k) [] before
-                  (λ later stood. lost_step (conf_of (member_of mid)) k later (member_of mid) l1 l2 c1 words k1 o1 lf1 lf2 (faults cf1 entropy disk kf1 of1) (kept_of old) (totals_of mid) refl stood gave counts);
+                  (λ later stood. lost_step others (conf_of (member_of mid)) k later (member_of mid) l1 l2 c1 others.words k1 o1 lf1 lf2 (faults cf1 others.entropy_faults others.disk_faults kf1 of1) (kept_of old) (totals_of mid) refl stood gave counts);
               results = rw append-nil before.results;
             };
       }
@@ -393,64 +394,64 @@ module _ (done : ℕ) (old mid : Running) (result : ℕ) (l0 l1 l2 : Option (Lis
   -- an accepted arrival ends the round
   pub round_moved : (member : Member) (end : LifeEnd) (from : Addr) (bytes : List ℕ) (outcome : Outcome) (l3 : Option (List LinkCall)) (c2 : Option (List ClockCall)) (k2 o2 : Option (List ℕ)) (lf3 cf2 kf2 of2 : ℕ)
       → Grew l1 l2 (Receive (Got from bytes) ∷ []) → ReceiptCounts (Got from bytes) lf1 lf2
-      → ((words : Option (List ℕ)) (entropy disk : ℕ) (history : History) → StandsForHistory (member_of mid) history
-      → TakesTo (conf_of (member_of mid)) history (λ time. Arrive time from bytes) (seen l2 c1 words k1 o1 lf2 (faults cf1 entropy disk kf1 of1))
-      (seen l3 c2 words k2 o2 lf3 (faults cf2 entropy disk kf2 of2)) member (totals_of mid) end outcome)
-      → is_moved outcome ≡ true → (words : Option (List ℕ)) (entropy disk : ℕ) (history : History) → StandsForHistory (member_of old) history
-      → RoundAnswers (conf_of (member_of old)) history (seen l0 c0 words k0 o0 lf0 (faults cf0 entropy disk kf0 of0)) (seen l3 c2 words k2 o2 lf3 (faults cf2 entropy disk kf2 of2))
+      → ((others : Seen) (history : History) → StandsForHistory (member_of mid) history
+      → TakesTo (conf_of (member_of mid)) history (λ time. Arrive time from bytes) (living others l2 c1 others.words k1 o1 lf2 (faults cf1 others.entropy_faults others.disk_faults kf1 of1))
+      (living others l3 c2 others.words k2 o2 lf3 (faults cf2 others.entropy_faults others.disk_faults kf2 of2)) member (totals_of mid) end outcome)
+      → is_moved outcome ≡ true → (others : Seen) (history : History) → StandsForHistory (member_of old) history
+      → RoundAnswers (conf_of (member_of old)) history (living others l0 c0 others.words k0 o0 lf0 (faults cf0 others.entropy_faults others.disk_faults kf0 of0)) (living others l3 c2 others.words k2 o2 lf3 (faults cf2 others.entropy_faults others.disk_faults kf2 of2))
       member (kept_of old) (totals_of old) end (Ok 0)
-  round_moved member end from bytes outcome l3 c2 k2 o2 lf3 cf2 kf2 of2 gave counts leads moved words entropy disk history stands =
+  round_moved member end from bytes outcome l3 c2 k2 o2 lf3 cf2 kf2 of2 gave counts leads moved others history stands =
       let one = one_left 16 done was.left below was.sum in
       let k = one.0 in
       let behind : behind_arrival k outcome ≡ Call = ap (λ (b : Bool). if b then Call else round_of k) moved in
-      let before = earlier k one.1 words entropy disk history stands in
+      let before = earlier k one.1 others history stands in
       answers_ok (conf_of (member_of old)) history _ _ member (kept_of old) (totals_of old) end (before.came ++ outcome ∷ []) 0
       (rounded_then k history old mid _ _ _ member end Done result Call (outcome ∷ []) before
       (λ later stood.
-      got_step (conf_of (member_of mid)) k later member from bytes l1 l2 c1 words k1 o1 lf1 lf2 (faults cf1 entropy disk kf1 of1)
-      (seen l3 c2 words k2 o2 lf3 (faults cf2 entropy disk kf2 of2)) (kept_of old) (totals_of mid) end outcome Call gave counts
-      (leads words entropy disk later stood) behind))
+      got_step others (conf_of (member_of mid)) k later member from bytes l1 l2 c1 others.words k1 o1 lf1 lf2 (faults cf1 others.entropy_faults others.disk_faults kf1 of1)
+      (living others l3 c2 others.words k2 o2 lf3 (faults cf2 others.entropy_faults others.disk_faults kf2 of2)) (kept_of old) (totals_of mid) end outcome Call gave counts
+      (leads others later stood) behind))
       (results_moved before.came outcome result before.results moved)
 
   -- and so does a quiet receipt
-  pub round_quiet_at : Grew l1 l2 (Receive Quiet ∷ []) → ReceiptCounts Quiet lf1 lf2 → (words : Option (List ℕ)) (entropy disk : ℕ) (history : History) → StandsForHistory (member_of old) history
-      → RoundAnswers (conf_of (member_of old)) history (seen l0 c0 words k0 o0 lf0 (faults cf0 entropy disk kf0 of0)) (seen l2 c1 words k1 o1 lf2 (faults cf1 entropy disk kf1 of1))
+  pub round_quiet_at : Grew l1 l2 (Receive Quiet ∷ []) → ReceiptCounts Quiet lf1 lf2 → (others : Seen) (history : History) → StandsForHistory (member_of old) history
+      → RoundAnswers (conf_of (member_of old)) history (living others l0 c0 others.words k0 o0 lf0 (faults cf0 others.entropy_faults others.disk_faults kf0 of0)) (living others l2 c1 others.words k1 o1 lf2 (faults cf1 others.entropy_faults others.disk_faults kf1 of1))
       (member_of mid) (kept_of old) (totals_of old) (with_quiet (totals_of mid)) (Ok result)
-  round_quiet_at gave counts words entropy disk history stands =
+  round_quiet_at gave counts others history stands =
       let one = one_left 16 done was.left below was.sum in
       let k = one.0 in
-      let before = earlier k one.1 words entropy disk history stands in
+      let before = earlier k one.1 others history stands in
       answers_ok (conf_of (member_of old)) history _ _ (member_of mid) (kept_of old) (totals_of old) (with_quiet (totals_of mid)) (before.came ++ []) result
       (rounded_then k history old mid _ _ _ (member_of mid) (with_quiet (totals_of mid)) Done result Call [] before
-      (λ later stood. quiet_step (conf_of (member_of mid)) k later (member_of mid) l1 l2 c1 words k1 o1 lf1 lf2 (faults cf1 entropy disk kf1 of1) (kept_of old) (totals_of mid) refl stood gave counts))
+      (λ later stood. quiet_step others (conf_of (member_of mid)) k later (member_of mid) l1 l2 c1 others.words k1 o1 lf1 lf2 (faults cf1 others.entropy_faults others.disk_faults kf1 of1) (kept_of old) (totals_of mid) refl stood gave counts))
       (rw append-nil before.results.is)
 
   -- an arrival whose taking ends the run
   pub round_fault : (member : Member) (end : LifeEnd) (why : Why) (from : Addr) (bytes : List ℕ) (l3 : Option (List LinkCall)) (c2 : Option (List ClockCall)) (k2 o2 : Option (List ℕ)) (lf3 cf2 kf2 of2 : ℕ) → why ≢ Done
       → Grew l1 l2 (Receive (Got from bytes) ∷ []) → ReceiptCounts (Got from bytes) lf1 lf2
-      → ((words : Option (List ℕ)) (entropy disk : ℕ) (history : History) → StandsForHistory (member_of mid) history
-      → TakesAt (conf_of (member_of mid)) history (λ time. Arrive time from bytes) (seen l2 c1 words k1 o1 lf2 (faults cf1 entropy disk kf1 of1))
-      (seen l3 c2 words k2 o2 lf3 (faults cf2 entropy disk kf2 of2)) member (totals_of mid) end why)
-      → (words : Option (List ℕ)) (entropy disk : ℕ) (history : History) → StandsForHistory (member_of old) history
-      → RoundAnswers (conf_of (member_of old)) history (seen l0 c0 words k0 o0 lf0 (faults cf0 entropy disk kf0 of0)) (seen l3 c2 words k2 o2 lf3 (faults cf2 entropy disk kf2 of2))
+      → ((others : Seen) (history : History) → StandsForHistory (member_of mid) history
+      → TakesAt (conf_of (member_of mid)) history (λ time. Arrive time from bytes) (living others l2 c1 others.words k1 o1 lf2 (faults cf1 others.entropy_faults others.disk_faults kf1 of1))
+      (living others l3 c2 others.words k2 o2 lf3 (faults cf2 others.entropy_faults others.disk_faults kf2 of2)) member (totals_of mid) end why)
+      → (others : Seen) (history : History) → StandsForHistory (member_of old) history
+      → RoundAnswers (conf_of (member_of old)) history (living others l0 c0 others.words k0 o0 lf0 (faults cf0 others.entropy_faults others.disk_faults kf0 of0)) (living others l3 c2 others.words k2 o2 lf3 (faults cf2 others.entropy_faults others.disk_faults kf2 of2))
       member (kept_of old) (totals_of old) end (Err why)
-  round_fault member end why from bytes l3 c2 k2 o2 lf3 cf2 kf2 of2 not gave counts takes words entropy disk history stands =
+  round_fault member end why from bytes l3 c2 k2 o2 lf3 cf2 kf2 of2 not gave counts takes others history stands =
       let one = one_left 16 done was.left below was.sum in
       let k = one.0 in
-      let before = earlier k one.1 words entropy disk history stands in
+      let before = earlier k one.1 others history stands in
       answers_err (conf_of (member_of old)) history _ _ member (kept_of old) (totals_of old) end (before.came ++ []) why
       (rounded_then k history old mid _ _ _ member end why result Call [] before
       (λ later stood.
-      fault_step (conf_of (member_of mid)) k later member from bytes l1 l2 c1 words k1 o1 lf1 lf2 (faults cf1 entropy disk kf1 of1)
-      (seen l3 c2 words k2 o2 lf3 (faults cf2 entropy disk kf2 of2)) (kept_of old) (totals_of mid) end why not gave counts (takes words entropy disk later stood)))
+      fault_step others (conf_of (member_of mid)) k later member from bytes l1 l2 c1 others.words k1 o1 lf1 lf2 (faults cf1 others.entropy_faults others.disk_faults kf1 of1)
+      (living others l3 c2 others.words k2 o2 lf3 (faults cf2 others.entropy_faults others.disk_faults kf2 of2)) (kept_of old) (totals_of mid) end why not gave counts (takes others later stood)))
 
 -- all 16 receipts were taken
 pub round_over : (done : ℕ) (old new : Running) (result : ℕ) (l0 l1 : Option (List LinkCall)) (c0 c1 : Option (List ClockCall)) (k0 k1 o0 o1 : Option (List ℕ)) (lf0 lf1 cf0 cf1 kf0 kf1 of0 of1 : ℕ) → done ≡ 16
     → Rounds done old new result l0 l1 c0 c1 k0 k1 o0 o1 lf0 lf1 cf0 cf1 kf0 kf1 of0 of1
-    → (words : Option (List ℕ)) (entropy disk : ℕ) (history : History) → StandsForHistory (member_of old) history
-    → RoundAnswers (conf_of (member_of old)) history (seen l0 c0 words k0 o0 lf0 (faults cf0 entropy disk kf0 of0)) (seen l1 c1 words k1 o1 lf1 (faults cf1 entropy disk kf1 of1))
+    → (others : Seen) (history : History) → StandsForHistory (member_of old) history
+    → RoundAnswers (conf_of (member_of old)) history (living others l0 c0 others.words k0 o0 lf0 (faults cf0 others.entropy_faults others.disk_faults kf0 of0)) (living others l1 c1 others.words k1 o1 lf1 (faults cf1 others.entropy_faults others.disk_faults kf1 of1))
     (member_of new) (kept_of old) (totals_of old) (totals_of new) (Ok result)
-round_over done old new result l0 l1 c0 c1 k0 k1 o0 o1 lf0 lf1 cf0 cf1 kf0 kf1 of0 of1 all was words entropy disk history stands =
-    let P : ℕ → Type 0 = λ (left : ℕ). Rounded left history old new (seen l0 c0 words k0 o0 lf0 (faults cf0 entropy disk kf0 of0)) (seen l1 c1 words k1 o1 lf1 (faults cf1 entropy disk kf1 of1)) result in
-    let last = subst P (let empty : was.left ≡ 0 = omega (arith, was.sum, all) in empty) (was.round words entropy disk history stands) in
+round_over done old new result l0 l1 c0 c1 k0 k1 o0 o1 lf0 lf1 cf0 cf1 kf0 kf1 of0 of1 all was others history stands =
+    let P : ℕ → Type 0 = λ (left : ℕ). Rounded left history old new (living others l0 c0 others.words k0 o0 lf0 (faults cf0 others.entropy_faults others.disk_faults kf0 of0)) (living others l1 c1 others.words k1 o1 lf1 (faults cf1 others.entropy_faults others.disk_faults kf1 of1)) result in
+    let last = subst P (let empty : was.left ≡ 0 = omega (arith, was.sum, all) in empty) (was.round others history stands) in
     answers_ok (conf_of (member_of old)) history _ _ (member_of new) (kept_of old) (totals_of old) (totals_of new) last.came result last.step last.results.is

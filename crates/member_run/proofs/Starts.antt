@@ -19,7 +19,8 @@ use Rattle.run_deeds.specs.declared.life_end.Why.{Why}
 use Rattle.run_deeds.specs.declared.life_end.Why.TheVariants.{Done, DiskFault, BadVersion, StampsSpent, ClockFault, EntropyFault, SinkFault}
 use Rattle.run_deeds.specs.Counting.{ended}
 use Rattle.run_deeds.specs.Deeds.{all_done, history_after}
-use Rattle.run_deeds.specs.Devices.{Seen, faults, nothing, seen}
+use Rattle.edge_seen.specs.Seen.{Seen}
+use Rattle.run_deeds.specs.Devices.{faults, nothing, living}
 use Rattle.run_deeds.specs.Marks.{Reserved, last_count}
 use Rattle.run_deeds.specs.Weaving.{Need, Start, Stood, life, none}
 use Rattle.run_deeds.proofs.Doing.{does_read}
@@ -44,47 +45,47 @@ some_mark None = (0, tt)
 some_mark (Some c) = (mark_of_image c, refl)
 
 -- no keeper was loaded
-pub no_keeper : (conf : Conf) (next : Need) (entry : DiskTold) (link : Option (List LinkCall)) (clock : Option (List ClockCall)) (words capture out : Option (List ℕ))
+pub no_keeper : (others : Seen) (conf : Conf) (next : Need) (entry : DiskTold) (link : Option (List LinkCall)) (clock : Option (List ClockCall)) (words capture out : Option (List ℕ))
     (lf cf ef df df' kf of : ℕ) (why : Why) → BlamedBy why df df' → why ≢ StampsSpent
-    → HasStopped conf next entry (seen link clock words capture out lf (faults cf ef df kf of)) (seen link clock words capture out lf (faults cf ef df' kf of)) why
-no_keeper conf next entry link clock words capture out lf cf ef df df' kf of DiskFault blamed other =
+    → HasStopped conf next entry (living others link clock words capture out lf (faults cf ef df kf of)) (living others link clock words capture out lf (faults cf ef df' kf of)) why
+no_keeper others conf next entry link clock words capture out lf cf ef df df' kf of DiskFault blamed other =
     let mark = some_mark entry.content in
     let stood : Stood = record { mark = mark.0 } in
     record {
       stood = stood;
       stood_for = mark.1;
-      runs = runs_stop conf (Start stood next) (Start stood next) next [] nothing (seen link clock words capture out lf (faults cf ef df kf of)) (seen link clock words capture out lf (faults cf ef df' kf of))
+      runs = runs_stop conf (Start stood next) (Start stood next) next [] nothing (living others link clock words capture out lf (faults cf ef df kf of)) (living others link clock words capture out lf (faults cf ef df' kf of))
           mark.0 mark.0 (ended Done) DiskFault (λ is. cc is) (grows_none conf) (tallies_none conf [] (ended Done)) none
-          (does_still conf [] link clock words capture out lf (faults cf ef df kf of) (faults cf ef df' kf of)) (tt, tt, (blamed, refl));
+          (does_still others conf [] link clock words capture out lf (faults cf ef df kf of) (faults cf ef df' kf of)) (tt, tt, (blamed, refl));
     }
-no_keeper conf next entry link clock words capture out lf cf ef df df' kf of BadVersion blamed other =
+no_keeper others conf next entry link clock words capture out lf cf ef df df' kf of BadVersion blamed other =
     let mark = some_mark entry.content in
     let stood : Stood = record { mark = mark.0 } in
     record {
       stood = stood;
       stood_for = mark.1;
-      runs = runs_stop conf (Start stood next) (Start stood next) next [] nothing (seen link clock words capture out lf (faults cf ef df kf of)) (seen link clock words capture out lf (faults cf ef df' kf of))
+      runs = runs_stop conf (Start stood next) (Start stood next) next [] nothing (living others link clock words capture out lf (faults cf ef df kf of)) (living others link clock words capture out lf (faults cf ef df' kf of))
           mark.0 mark.0 (ended Done) BadVersion (λ is. cc is) (grows_none conf) (tallies_none conf [] (ended Done)) none
-          (does_still conf [] link clock words capture out lf (faults cf ef df kf of) (faults cf ef df' kf of)) (tt, tt, λ i. faults cf ef (blamed i) kf of);
+          (does_still others conf [] link clock words capture out lf (faults cf ef df kf of) (faults cf ef df' kf of)) (tt, tt, λ i. faults cf ef (blamed i) kf of);
     }
-no_keeper conf next entry link clock words capture out lf cf ef df df' kf of StampsSpent blamed other = absurd (other refl)
-no_keeper conf next entry link clock words capture out lf cf ef df df' kf of Done blamed other = absurd blamed
-no_keeper conf next entry link clock words capture out lf cf ef df df' kf of ClockFault blamed other = absurd blamed
-no_keeper conf next entry link clock words capture out lf cf ef df df' kf of EntropyFault blamed other = absurd blamed
-no_keeper conf next entry link clock words capture out lf cf ef df df' kf of SinkFault blamed other = absurd blamed
+no_keeper others conf next entry link clock words capture out lf cf ef df df' kf of StampsSpent blamed other = absurd (other refl)
+no_keeper others conf next entry link clock words capture out lf cf ef df df' kf of Done blamed other = absurd blamed
+no_keeper others conf next entry link clock words capture out lf cf ef df df' kf of ClockFault blamed other = absurd blamed
+no_keeper others conf next entry link clock words capture out lf cf ef df df' kf of EntropyFault blamed other = absurd blamed
+no_keeper others conf next entry link clock words capture out lf cf ef df df' kf of SinkFault blamed other = absurd blamed
 
 -- the clock failed
-pub no_life : (conf : Conf) (next : Need) (entry : DiskTold) (mark : ℕ) (link : Option (List LinkCall)) (clock clock' : Option (List ClockCall)) (words capture out : Option (List ℕ))
+pub no_life : (others : Seen) (conf : Conf) (next : Need) (entry : DiskTold) (mark : ℕ) (link : Option (List LinkCall)) (clock clock' : Option (List ClockCall)) (words capture out : Option (List ℕ))
     (lf cf cf' ef df df' kf of : ℕ) (why : Why) → IfSome entry.content (λ c. mark ≡ mark_of_image c) → why ≡ ClockFault → clock' ≡ clock → Fails cf cf' → df' ≡ df
-    → HasStopped conf next entry (seen link clock words capture out lf (faults cf ef df kf of)) (seen link clock' words capture out lf (faults cf' ef df' kf of)) why
-no_life conf next entry mark link clock clock' words capture out lf cf cf' ef df df' kf of why stood_for is same fails disk =
+    → HasStopped conf next entry (living others link clock words capture out lf (faults cf ef df kf of)) (living others link clock' words capture out lf (faults cf' ef df' kf of)) why
+no_life others conf next entry mark link clock clock' words capture out lf cf cf' ef df df' kf of why stood_for is same fails disk =
     let stood : Stood = record { mark = mark } in
     rw (is, same) (record {
       stood = stood;
       stood_for = stood_for;
-      runs = runs_stop conf (Start stood next) (Start stood next) next [] nothing (seen link clock words capture out lf (faults cf ef df kf of)) (seen link clock words capture out lf (faults cf' ef df' kf of))
+      runs = runs_stop conf (Start stood next) (Start stood next) next [] nothing (living others link clock words capture out lf (faults cf ef df kf of)) (living others link clock words capture out lf (faults cf' ef df' kf of))
           mark mark (ended Done) ClockFault (λ is. cc is) (grows_none conf) (tallies_none conf [] (ended Done)) none
-          (does_still conf [] link clock words capture out lf (faults cf ef df kf of) (faults cf' ef df' kf of)) (tt, tt, (fails, λ i. faults cf' ef (disk i) kf of));
+          (does_still others conf [] link clock words capture out lf (faults cf ef df kf of) (faults cf' ef df' kf of)) (tt, tt, (fails, λ i. faults cf' ef (disk i) kf of));
     })
 
 -- ---- The Life
@@ -95,13 +96,13 @@ unfolding told
 life_reserved conf now mark = record { blocks = omega arith; within = omega arith; needed = omega arith }
 
 -- it could not be taken whole
-pub life_cut : (set conf : Conf) (next : Need) (entry : DiskTold) (now : ℤ) (mark : ℕ) (link : Option (List LinkCall)) (clock clock' : Option (List ClockCall)) (words capture out : Option (List ℕ))
+pub life_cut : (others : Seen) (set conf : Conf) (next : Need) (entry : DiskTold) (now : ℤ) (mark : ℕ) (link : Option (List LinkCall)) (clock clock' : Option (List ClockCall)) (words capture out : Option (List ℕ))
     (lf cf cf' ef df df' kf of : ℕ) (after : Seen) (member : Member) (new : LifeEnd) (why : Why)
     → set ≡ conf → IfSome entry.content (λ c. mark ≡ mark_of_image c) → GaveReadings clock clock' (now ∷ []) → cf' ≡ cf → df' ≡ df → why ≡ SinkFault
     → new ≡ ended Done
-    → Takes set [] (Life now mark) [] (seen link clock' words capture out lf (faults cf' ef df' kf of)) after member (ended Done) new why
-    → HasStopped conf next entry (seen link clock words capture out lf (faults cf ef df kf of)) after why
-life_cut set conf next entry now mark link clock clock' words capture out lf cf cf' ef df df' kf of after member new why is_set stood_for gave read disk is uncounted takes =
+    → Takes set [] (Life now mark) [] (living others link clock' words capture out lf (faults cf' ef df' kf of)) after member (ended Done) new why
+    → HasStopped conf next entry (living others link clock words capture out lf (faults cf ef df kf of)) after why
+life_cut others set conf next entry now mark link clock clock' words capture out lf cf cf' ef df df' kf of after member new why is_set stood_for gave read disk is uncounted takes =
     let stood : Stood = record { mark = mark } in
     let same = rw (uncounted, is_set) at takes in
     let no_done : why ≢ Done = λ (done : why ≡ Done). cc (is, done) in
@@ -109,18 +110,18 @@ life_cut set conf next entry now mark link clock clock' words capture out lf cf 
       stood = stood;
       stood_for = stood_for;
       runs = runs_takes conf (Start stood next) next [] (Life now mark) (record { clock = Read now ∷ []; words = []; link = [] }) []
-          (seen link clock words capture out lf (faults cf ef df kf of)) (seen link clock' words capture out lf (faults cf' ef df' kf of)) after member mark mark (ended Done) (ended Done) why
-          (does_read conf [] link clock clock' words capture out lf (faults cf ef df kf of) (faults cf' ef df' kf of) now gave)
+          (living others link clock words capture out lf (faults cf ef df kf of)) (living others link clock' words capture out lf (faults cf' ef df' kf of)) after member mark mark (ended Done) (ended Done) why
+          (does_read others conf [] link clock clock' words capture out lf (faults cf ef df kf of) (faults cf' ef df' kf of) now gave)
           (tallies_none conf [] (ended Done)) (λ i. faults (read i) ef (disk i) kf of) same (λ cs ls need s. life s) tt (λ done. absurd (no_done done));
     }
 
 -- it was taken
-pub life_taken : (set conf : Conf) (next : Need) (entry : DiskTold) (now : ℤ) (mark : ℕ) (link : Option (List LinkCall)) (clock clock' : Option (List ClockCall)) (words capture out : Option (List ℕ))
+pub life_taken : (others : Seen) (set conf : Conf) (next : Need) (entry : DiskTold) (now : ℤ) (mark : ℕ) (link : Option (List LinkCall)) (clock clock' : Option (List ClockCall)) (words capture out : Option (List ℕ))
     (lf cf cf' ef df df' kf of : ℕ) (after : Seen) (running : Running)
     → set ≡ conf → IfSome entry.content (λ c. mark ≡ mark_of_image c) → kept_of running ≡ mark → GaveReadings clock clock' (now ∷ []) → cf' ≡ cf → df' ≡ df
-    → Takes set [] (Life now mark) [] (seen link clock' words capture out lf (faults cf' ef df' kf of)) after (member_of running) (ended Done) (totals_of running) Done
-    → HasBegun conf next entry (seen link clock words capture out lf (faults cf ef df kf of)) after running
-life_taken set conf next entry now mark link clock clock' words capture out lf cf cf' ef df df' kf of after running is_set stood_for kept gave read disk taken =
+    → Takes set [] (Life now mark) [] (living others link clock' words capture out lf (faults cf' ef df' kf of)) after (member_of running) (ended Done) (totals_of running) Done
+    → HasBegun conf next entry (living others link clock words capture out lf (faults cf ef df kf of)) after running
+life_taken others set conf next entry now mark link clock clock' words capture out lf cf cf' ef df df' kf of after running is_set stood_for kept gave read disk taken =
     let takes = rw is_set at taken in
     let stood : Stood = record { mark = mark } in
     let whole : history_after [] (all_done takes.deeds takes.ending) ≡ Life now mark ∷ [] =
@@ -131,8 +132,8 @@ life_taken set conf next entry now mark link clock clock' words capture out lf c
       kept = kept;
       part = record {
         runs = runs_takes conf (Start stood next) next [] (Life now mark) (record { clock = Read now ∷ []; words = []; link = [] }) []
-            (seen link clock words capture out lf (faults cf ef df kf of)) (seen link clock' words capture out lf (faults cf' ef df' kf of)) after (member_of running) mark mark (ended Done) (totals_of running) Done
-            (does_read conf [] link clock clock' words capture out lf (faults cf ef df kf of) (faults cf' ef df' kf of) now gave)
+            (living others link clock words capture out lf (faults cf ef df kf of)) (living others link clock' words capture out lf (faults cf' ef df' kf of)) after (member_of running) mark mark (ended Done) (totals_of running) Done
+            (does_read others conf [] link clock clock' words capture out lf (faults cf ef df kf of) (faults cf' ef df' kf of) now gave)
             (tallies_none conf [] (ended Done)) (λ i. faults (read i) ef (disk i) kf of) takes (λ cs ls need s. life s) tt (λ is was. life_reserved conf now mark);
         is_set = takes.is_set;
         stands = takes.stands;

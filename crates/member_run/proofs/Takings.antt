@@ -28,7 +28,8 @@ use Rattle.run_deeds.specs.declared.life_end.Why.{Why}
 use Rattle.run_deeds.specs.declared.life_end.Why.TheVariants.{Done, DiskFault, BadVersion, StampsSpent, ClockFault, EntropyFault, SinkFault}
 use Rattle.run_deeds.specs.Counting.{counted, more}
 use Rattle.run_deeds.specs.Deeds.{Take, Whole, NoRecord, NoLine, along, moves_in, posted_in, reasons_by}
-use Rattle.run_deeds.specs.Devices.{faults, seen}
+use Rattle.edge_seen.specs.Seen.{Seen}
+use Rattle.run_deeds.specs.Devices.{faults, living}
 use Rattle.run_deeds.specs.Parts.{Tallies, is_quiet}
 use Rattle.run_deeds.specs.Weaving.{posted_of, ticks_by}
 use Rattle.run_deeds.proofs.Stopping.{tallies_none}
@@ -36,11 +37,11 @@ use Rattle.member_run.specs.Asking.{WrittenBy}
 use Rattle.member_run.specs.Taking.{Acts, Takes}
 
 -- the record could not be written
-pub no_record : (conf : Conf) (history : History) (event : Event) (member : Member) (link : Option (List LinkCall)) (clock : Option (List ClockCall)) (words capture capture' out : Option (List ℕ))
+pub no_record : (others : Seen) (conf : Conf) (history : History) (event : Event) (member : Member) (link : Option (List LinkCall)) (clock : Option (List ClockCall)) (words capture capture' out : Option (List ℕ))
     (link_faults cf ef df kf kf' of : ℕ) (end : LifeEnd) → conf_of member ≡ conf → StandsForHistory member history → EventFits event
     → WrittenBy SinkFault (event_bytes event) capture capture' kf kf'
-    → Takes conf history event [] (seen link clock words capture out link_faults (faults cf ef df kf of)) (seen link clock words capture' out link_faults (faults cf ef df kf' of)) member end end SinkFault
-no_record conf history event member link clock words capture capture' out link_faults cf ef df kf kf' of end is_set stands fits (front, added, fails) = record {
+    → Takes conf history event [] (living others link clock words capture out link_faults (faults cf ef df kf of)) (living others link clock words capture' out link_faults (faults cf ef df kf' of)) member end end SinkFault
+no_record others conf history event member link clock words capture capture' out link_faults cf ef df kf kf' of end is_set stands fits (front, added, fails) = record {
   made = [];
   tried = [];
   deeds = [];
@@ -102,15 +103,15 @@ moves_one conf history event outcome leads =
     moves_among-moves (moves_by outcome) ∙ ap moves_by leads ∙ sym (append-nil (moves_by (outcome_at conf history event)))
 
 -- The record was written, the member stepped, and what the outcome says was done; the line was written, or a front of it.
-pub takes_all : (conf : Conf) (history : History) (event : Event) (outcome : Outcome) (member : Member)
+pub takes_all : (others : Seen) (conf : Conf) (history : History) (event : Event) (outcome : Outcome) (member : Member)
     (link link' : Option (List LinkCall)) (clock clock' : Option (List ClockCall)) (words capture capture' out out' : Option (List ℕ))
     (lf lf' cf ef df kf kf' of of' : ℕ) (end mid new : LifeEnd) (why : Why)
     → conf_of member ≡ conf → StandsForHistory member (event ∷ history) → EventFits event → outcome ≡ outcome_at conf history event
     → WrittenBy Done (event_bytes event) capture capture' kf kf'
     → mid ≡ counted event outcome end → Acts outcome link link' clock clock' lf lf' mid new
     → WrittenBy why (line_of outcome) out out' of of' → (why ≡ SinkFault → 0 < length (line_of outcome))
-    → Takes conf history event [] (seen link clock words capture out lf (faults cf ef df kf of)) (seen link' clock' words capture' out' lf' (faults cf ef df kf' of')) member end new why
-takes_all conf history event outcome member link link' clock clock' words capture capture' out out' lf lf' cf ef df kf kf' of of' end mid new Done
+    → Takes conf history event [] (living others link clock words capture out lf (faults cf ef df kf of)) (living others link' clock' words capture' out' lf' (faults cf ef df kf' of')) member end new why
+takes_all others conf history event outcome member link link' clock clock' words capture capture' out out' lf lf' cf ef df kf kf' of of' end mid new Done
     is_set stands fits leads (added, none) was acts (line, none') some = record {
       made = map Correct (moves_by outcome);
       tried = acts.tried;
@@ -137,7 +138,7 @@ takes_all conf history event outcome member link link' clock clock' words captur
       tallies = tallies_one conf history event outcome acts.tried end mid new leads was acts.counted;
       ends = (tt, λ i. faults cf ef df (none i) (none' i));
     }
-takes_all conf history event outcome member link link' clock clock' words capture capture' out out' lf lf' cf ef df kf kf' of of' end mid new SinkFault
+takes_all others conf history event outcome member link link' clock clock' words capture capture' out out' lf lf' cf ef df kf kf' of of' end mid new SinkFault
     is_set stands fits leads (added, none) was acts (front, line, fails) some = record {
       made = map Correct (moves_by outcome);
       tried = acts.tried;
@@ -164,13 +165,13 @@ takes_all conf history event outcome member link link' clock clock' words captur
       tallies = tallies_one conf history event outcome acts.tried end mid new leads was acts.counted;
       ends = (fails, λ i. faults cf ef df (none i) of');
     }
-takes_all conf history event outcome member link link' clock clock' words capture capture' out out' lf lf' cf ef df kf kf' of of' end mid new DiskFault
+takes_all others conf history event outcome member link link' clock clock' words capture capture' out out' lf lf' cf ef df kf kf' of of' end mid new DiskFault
     is_set stands fits leads written was acts line some = absurd line
-takes_all conf history event outcome member link link' clock clock' words capture capture' out out' lf lf' cf ef df kf kf' of of' end mid new BadVersion
+takes_all others conf history event outcome member link link' clock clock' words capture capture' out out' lf lf' cf ef df kf kf' of of' end mid new BadVersion
     is_set stands fits leads written was acts line some = absurd line
-takes_all conf history event outcome member link link' clock clock' words capture capture' out out' lf lf' cf ef df kf kf' of of' end mid new StampsSpent
+takes_all others conf history event outcome member link link' clock clock' words capture capture' out out' lf lf' cf ef df kf kf' of of' end mid new StampsSpent
     is_set stands fits leads written was acts line some = absurd line
-takes_all conf history event outcome member link link' clock clock' words capture capture' out out' lf lf' cf ef df kf kf' of of' end mid new ClockFault
+takes_all others conf history event outcome member link link' clock clock' words capture capture' out out' lf lf' cf ef df kf kf' of of' end mid new ClockFault
     is_set stands fits leads written was acts line some = absurd line
-takes_all conf history event outcome member link link' clock clock' words capture capture' out out' lf lf' cf ef df kf kf' of of' end mid new EntropyFault
+takes_all others conf history event outcome member link link' clock clock' words capture capture' out out' lf lf' cf ef df kf kf' of of' end mid new EntropyFault
     is_set stands fits leads written was acts line some = absurd line

@@ -25,7 +25,8 @@ use Rattle.run_deeds.specs.declared.life_end.Why.{Why}
 use Rattle.run_deeds.specs.declared.life_end.Why.TheVariants.{Done, DiskFault, BadVersion, StampsSpent, ClockFault, EntropyFault, SinkFault}
 use Rattle.run_deeds.specs.Weaving.{Need, Stood, Start, Turns, WordFor, ReceiptNow, ReadingFor, Call, CallReading, CallWord, Round, RoundReading, Act, Weaves, none, acts, life, reads, draws, gets, quiet, lost, arrives, followed_by, turns_of}
 use Rattle.run_deeds.specs.Deeds.{Deed, Take, Ending, Whole, NoRecord, NoLine, IsWhole, all_done, events_given, history_after, missing_in}
-use Rattle.run_deeds.specs.Devices.{Faults, IsBeforeTick, IsBehind, IsBetween, IsInCalls, IsToDo, LifeEndsBy, NeedsCount, NeedsDisk, NeedsMark, NeedsReading, NeedsReceipt, NeedsWord, Seen, nothing}
+use Rattle.edge_seen.specs.Seen.{Seen}
+use Rattle.run_deeds.specs.Devices.{Faults, IsBeforeTick, IsBehind, IsBetween, IsInCalls, IsToDo, LifeEndsBy, NeedsCount, NeedsDisk, NeedsMark, NeedsReading, NeedsReceipt, NeedsWord, nothing, faults_of}
 use Rattle.run_deeds.specs.Lives.{CallsForBlocks, StandsForBlocks}
 use Rattle.run_deeds.specs.Marks.{Covers, KeepsLoadable, Reserved, last_count}
 use Rattle.run_deeds.specs.Parts.{Part, Runs}
@@ -407,7 +408,7 @@ raised_runs conf left history a b kept kept' old new why r = record {
   takes = r.takes;
   grows = r.grows;
   tallies = r.tallies;
-  ends = raised_ends left why r.deeds r.ending r.taken r.need a.faults b.faults r.takes r.ends;
+  ends = raised_ends left why r.deeds r.ending r.taken r.need (faults_of a) (faults_of b) r.takes r.ends;
   well = λ is. ap (raised left) (r.well is);
   reserved = r.reserved;
 }
@@ -527,7 +528,7 @@ turns_on turns left history old mid new a b c why one turn =
     let r = two.runs in
     let raised = raised_runs conf left between b c (kept_of mid) (kept_of new) (totals_of mid) (totals_of new) why r in
     let both = runs_then conf (Turns turns) (Turns (suc left)) (Turns left) history a b c (kept_of old) (kept_of mid) (kept_of new) (totals_of old) (totals_of mid) (totals_of new) why one.runs raised in
-    let Ends : Why → Type 0 = λ (w : Why). LifeEndsBy w r.ending r.need b.faults c.faults in
+    let Ends : Why → Type 0 = λ (w : Why). LifeEndsBy w r.ending r.need (faults_of b) (faults_of c) in
     record {
       part = record {
         runs = both.0;
@@ -538,13 +539,13 @@ turns_on turns left history old mid new a b c why one turn =
       later = later_taken conf 1 between r.given.clock r.given.words r.given.link r.deeds r.ending r.need r.taken r.takes r.weaves;
       ends = both.1 ∙ taken_history between r.deeds r.ending r.taken r.takes;
       whole = λ is.
-          let ends : LifeEndsBy Done r.ending r.need b.faults c.faults = subst Ends is r.ends in
+          let ends : LifeEndsBy Done r.ending r.need (faults_of b) (faults_of c) = subst Ends is r.ends in
           turn_blocks conf 0 between r.given.clock r.given.words r.given.link r.deeds r.ending r.need r.taken r.weaves (r.well is) ends.0 r.takes;
       disk = λ is.
-          let ends : LifeEndsBy DiskFault r.ending r.need b.faults c.faults = subst Ends is r.ends in
+          let ends : LifeEndsBy DiskFault r.ending r.need (faults_of b) (faults_of c) = subst Ends is r.ends in
           sym (whole_given r.deeds r.ending r.taken ends.0 r.takes) ∙ not_begun r.weaves ends.1;
       spent = λ is.
-          let ends : LifeEndsBy StampsSpent r.ending r.need b.faults c.faults = subst Ends is r.ends in
+          let ends : LifeEndsBy StampsSpent r.ending r.need (faults_of b) (faults_of c) = subst Ends is r.ends in
           sym (whole_given r.deeds r.ending r.taken ends.0 r.takes) ∙ not_counted r.weaves ends.1;
       turn = turn_taken conf between r.given.clock r.given.words r.given.link r.deeds r.ending r.need r.taken r.takes r.weaves;
       first = λ nothing. rw (both.2, both.3) (before_tick left r.deeds r.ending r.taken r.takes r.weaves nothing);
@@ -831,21 +832,21 @@ pub going_covers : (disk : DiskTold) (running : Running) → IsGoing disk runnin
 going_covers disk running going = record { each = λ image left. omega (arith, going.fits.stands image left, going.within, going.begun.greatest) }
 
 -- so many turns were taken, and the run goes on
-pub record Goes (turns done : ℕ) (old new : Running) (entry exit : DiskTold) (before now : Seen) : Type 0 where
+pub record Goes (turns done : ℕ) (old new : Running) (entry exit : DiskTold) (before now : Seen → Seen) : Type 0 where
   pub left : ℕ
   pub sum : done + left ≡ turns
   pub going : IsGoing exit new
-  pub turned : (history : History) → StandsForHistory (member_of old) history → Turned turns left history old new entry exit before now
+  pub turned : (others : Seen) (history : History) → StandsForHistory (member_of old) history → Turned turns left history old new entry exit (before others) (now others)
   pub least : KeepsMarks entry exit
   pub loads : KeepsLoadable entry exit
   pub unused : LeavesOnly entry exit (KeepsUnused entry)
 
-pub goes_none : (turns : ℕ) (running : Running) (disk : DiskTold) (now : Seen) → IsDisk disk → IsGoing disk running → Goes turns 0 running running disk disk now now
+pub goes_none : (turns : ℕ) (running : Running) (disk : DiskTold) (now : Seen → Seen) → IsDisk disk → IsGoing disk running → Goes turns 0 running running disk disk now now
 goes_none turns running disk now is going = record {
   left = turns;
   sum = omega arith;
   going = going;
-  turned = λ history stands. turned_none turns history running disk now is going stands;
+  turned = λ others history stands. turned_none turns history running disk (now others) is going stands;
   least = marks_stay disk;
   loads = loads_stay disk;
   unused = unused_same disk is;
@@ -855,35 +856,35 @@ pub one_left : (turns done left : ℕ) → done < turns → done + left ≡ turn
 one_left turns done zero below sum = absurd (omega (arith, below, sum))
 one_left turns done (suc k) below sum = (k, refl)
 
-pub goes_on : (turns done : ℕ) (old mid new : Running) (e m x : DiskTold) (a b c : Seen) → done < turns → Goes turns done old mid e m a b
-    → ((k : ℕ) → IsPart mid new (Turns (suc k)) (Turns k) b c Done) → IsGoing x new → CallsWhereDue mid m x → RisesWhereDue mid m x → KeepsMarks m x → KeepsLoadable m x
+pub goes_on : (turns done : ℕ) (old mid new : Running) (e m x : DiskTold) (a b c : Seen → Seen) → done < turns → Goes turns done old mid e m a b
+    → ((others : Seen) (k : ℕ) → IsPart mid new (Turns (suc k)) (Turns k) (b others) (c others) Done) → IsGoing x new → CallsWhereDue mid m x → RisesWhereDue mid m x → KeepsMarks m x → KeepsLoadable m x
     → IsDisk m → LeavesOnly m x (KeepsUnused m) → Goes turns (done + 1) old new e x a c
 goes_on turns done old mid new e m x a b c below was turn going calls rises least loads is unused =
     let one = one_left turns done was.left below was.sum in
-    let P : ℕ → Type 0 = λ (left : ℕ). (history : History) → StandsForHistory (member_of old) history → Turned turns left history old mid e m a b in
+    let P : ℕ → Type 0 = λ (left : ℕ). (others : Seen) (history : History) → StandsForHistory (member_of old) history → Turned turns left history old mid e m (a others) (b others) in
     let turned : P (suc one.0) = subst P one.1 was.turned in
     record {
       left = one.0;
       sum = omega (arith, was.sum, one.1);
       going = going;
-      turned = λ history stands. turned_on turns one.0 history old mid new e m x a b c (turned history stands) was.going.begun.last calls rises turn;
+      turned = λ others history stands. turned_on turns one.0 history old mid new e m x (a others) (b others) (c others) (turned others history stands) was.going.begun.last calls rises (turn others);
       least = marks_then was.least least;
       loads = loads_then was.loads loads;
       unused = unused_then is was.unused unused;
     }
 
-pub goes_stop : (turns done : ℕ) (old mid new : Running) (e m x : DiskTold) (a b c : Seen) (why : Why) → done < turns → Goes turns done old mid e m a b
-    → why ≢ Done → why ≢ BadVersion → ((k : ℕ) → IsPart mid new (Turns (suc k)) (Turns k) b c why) → CallsWhereDue mid m x
+pub goes_stop : (turns done : ℕ) (old mid new : Running) (e m x : DiskTold) (a b c : Seen → Seen) (why : Why) → done < turns → Goes turns done old mid e m a b
+    → why ≢ Done → why ≢ BadVersion → ((others : Seen) (k : ℕ) → IsPart mid new (Turns (suc k)) (Turns k) (b others) (c others) why) → CallsWhereDue mid m x
     → (why ≡ DiskFault → IsUsedUp mid) → why ≡ StampsSpent ↔ (IsUsedUp mid × (4294967231 < kept_of mid)) → RisesWhereDue mid m x → (why ≡ StampsSpent → x ≡ m)
-    → (history : History) → StandsForHistory (member_of old) history → TakesTurns turns history old new e x a c why
-goes_stop turns done old mid new e m x a b c why below was not never turn calls used spent rises still history stands =
+    → (others : Seen) (history : History) → StandsForHistory (member_of old) history → TakesTurns turns history old new e x (a others) (c others) why
+goes_stop turns done old mid new e m x a b c why below was not never turn calls used spent rises still others history stands =
     let one = one_left turns done was.left below was.sum in
-    let P : ℕ → Type 0 = λ (left : ℕ). (h : History) → StandsForHistory (member_of old) h → Turned turns left h old mid e m a b in
+    let P : ℕ → Type 0 = λ (left : ℕ). (others : Seen) (h : History) → StandsForHistory (member_of old) h → Turned turns left h old mid e m (a others) (b others) in
     let turned : P (suc one.0) = subst P one.1 was.turned in
-    turns_end turns one.0 history old mid new e m x a b c why not never (turned history stands) was.going.begun.last calls used spent was.going.within was.going.below rises still turn
+    turns_end turns one.0 history old mid new e m x (a others) (b others) (c others) why not never (turned others history stands) was.going.begun.last calls used spent was.going.within was.going.below rises still (turn others)
 
-pub goes_whole : (turns done : ℕ) (old new : Running) (e x : DiskTold) (a b : Seen) → done ≡ turns → Goes turns done old new e x a b
-    → (history : History) → StandsForHistory (member_of old) history → TakesTurns turns history old new e x a b Done
-goes_whole turns done old new e x a b all was history stands =
-    let P : ℕ → Type 0 = λ (left : ℕ). Turned turns left history old new e x a b in
-    turns_done turns history old new e x a b (subst P (let none : was.left ≡ 0 = omega (arith, was.sum, all) in none) (was.turned history stands)) was.going
+pub goes_whole : (turns done : ℕ) (old new : Running) (e x : DiskTold) (a b : Seen → Seen) → done ≡ turns → Goes turns done old new e x a b
+    → (others : Seen) (history : History) → StandsForHistory (member_of old) history → TakesTurns turns history old new e x (a others) (b others) Done
+goes_whole turns done old new e x a b all was others history stands =
+    let P : ℕ → Type 0 = λ (left : ℕ). Turned turns left history old new e x (a others) (b others) in
+    turns_done turns history old new e x (a others) (b others) (subst P (let none : was.left ≡ 0 = omega (arith, was.sum, all) in none) (was.turned others history stands)) was.going

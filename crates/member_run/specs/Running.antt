@@ -11,7 +11,7 @@ use Rattle.run_deeds.specs.declared.life_end.LifeEnd.{LifeEnd}
 use Rattle.run_deeds.specs.declared.life_end.Why.{Why}
 use Rattle.run_deeds.specs.declared.life_end.Why.TheVariants.{Done, DiskFault, BadVersion, StampsSpent, ClockFault, EntropyFault, SinkFault}
 use Rattle.run_deeds.specs.Weaving.{Need}
-use Rattle.run_deeds.specs.Devices.{Seen}
+use Rattle.edge_seen.specs.Seen.{Seen}
 use Rattle.run_deeds.specs.Parts.{Part}
 use Rattle.run_deeds.specs.Marks.{last_count}
 use Rattle.member_run.specs.declared.running.Running.{Running}

@@ -1,5 +1,6 @@
 -- The first part of a run.
-use Rattle.std.specs.Prelude.{◌≡◌, [], IfSome, Result, Ok, Err, ⊤}
+use Rattle.std.specs.Prelude.{◌≡◌, ℕ, List, [], Option, IfSome, Result, Ok, Err, ⊤}
+use Rattle.edge_traits.specs.Clock.{ClockCall}
 use Rattle.slot_disk.specs.Told.{DiskTold}
 use Rattle.stamp_keep.specs.Image.{mark_of_image}
 use Rattle.time_machine.specs.declared.conf.Conf.{Conf}
@@ -8,12 +9,18 @@ use Rattle.run_deeds.specs.declared.life_end.Why.TheVariants.{Done, DiskFault, B
 use Rattle.run_deeds.specs.Counting.{ended}
 use Rattle.time_machine.specs.Machine.{told}
 use Rattle.run_deeds.specs.Deeds.{all_done, history_after}
-use Rattle.run_deeds.specs.Devices.{Seen}
+use Rattle.edge_seen.specs.Seen.{Seen}
 use Rattle.run_deeds.specs.Marks.{Reserved}
 use Rattle.run_deeds.specs.Parts.{Part, Runs}
 use Rattle.run_deeds.specs.Weaving.{Need, Start, Stood}
 use Rattle.member_run.specs.declared.running.Running.{Running}
 use Rattle.member_run.specs.Running.{kept_of, member_of, totals_of}
+use Rattle.member_run.specs.Taking.{writing}
+
+-- what the devices tell where clock, disk and the two sinks tell this
+abbrev pub starting : Seen → Option (List ClockCall) → Option (List ℕ) → Option (List ℕ) → (clock_faults disk_faults capture_faults write_faults : ℕ) → Seen
+starting others clock capture out clock_faults disk_faults capture_faults write_faults =
+    record (writing others capture out capture_faults write_faults) { clock = clock; clock_faults = clock_faults; disk_faults = disk_faults }
 
 -- the run began with the Life, whose mark is what the content stood for
 pub record HasBegun (conf : Conf) (next : Need) (entry : DiskTold) (before now : Seen) (running : Running) : Type 0 where

@@ -22,10 +22,25 @@ use Rattle.run_deeds.specs.declared.life_end.Why.{Why}
 use Rattle.run_deeds.specs.declared.life_end.Why.TheVariants.{Done, DiskFault, BadVersion, StampsSpent, ClockFault, EntropyFault, SinkFault}
 use Rattle.run_deeds.specs.Counting.{more, with_lost}
 use Rattle.run_deeds.specs.Deeds.{Deed, Take, Ending, Whole, NoRecord, NoLine, IsWhole, history_after, all_done, events_given}
-use Rattle.run_deeds.specs.Devices.{Seen, Faults, Does, ClockFailed, SinkFailed, nothing}
+use Rattle.edge_seen.specs.Seen.{Seen}
+use Rattle.run_deeds.specs.Devices.{Faults, Does, ClockFailed, SinkFailed, nothing, faults_of}
 use Rattle.run_deeds.specs.Weaving.{posted_of}
 use Rattle.run_deeds.specs.Parts.{Tallies}
 use Rattle.member_run.specs.declared.running.Running.{Running}
+
+-- what the devices tell where the two sinks tell this
+abbrev pub writing : Seen → Option (List ℕ) → Option (List ℕ) → (capture_faults write_faults : ℕ) → Seen
+writing others capture out capture_faults write_faults =
+    record others { capture = capture; capture_faults = capture_faults; written = out; write_faults = write_faults }
+
+-- what the devices tell where link, clock and the two sinks tell this
+abbrev pub taking : Seen → Option (List LinkCall) → Option (List ClockCall) → Option (List ℕ) → Option (List ℕ) → (link_faults clock_faults capture_faults write_faults : ℕ) → Seen
+taking others link clock capture out link_faults clock_faults capture_faults write_faults = record (writing others capture out capture_faults write_faults) {
+  link = link;
+  link_faults = link_faults;
+  clock = clock;
+  clock_faults = clock_faults;
+}
 
 -- what taking an event answers: only a sink may fail in it
 abbrev pub TakeEnds : Why → Ending → Faults → Faults → Type 0
@@ -58,7 +73,7 @@ pub record Takes (conf : Conf) (history : History) (event : Event) (read : List 
   pub is_set : conf_of member ≡ conf
   pub stands : StandsForHistory member (history_after history (all_done deeds ending))
   pub tallies : Tallies conf history (all_done deeds ending) (map Send tried) old new
-  pub ends : TakeEnds why ending before.faults now.faults
+  pub ends : TakeEnds why ending (faults_of before) (faults_of now)
 
 -- the clock failed, and nothing was taken
 pub record Unread (conf : Conf) (history : History) (before now : Seen) (member : Member) (old new : LifeEnd) (why : Why) : Type 0 where
@@ -67,7 +82,7 @@ pub record Unread (conf : Conf) (history : History) (before now : Seen) (member 
   pub is_set : conf_of member ≡ conf
   pub stands : StandsForHistory member history
   pub totals : new ≡ old
-  pub failed : ClockFailed before.faults now.faults
+  pub failed : ClockFailed (faults_of before) (faults_of now)
 
 -- an event is taken at the next reading, or the clock failed
 abbrev pub TakesAt : Conf → History → (ℤ → Event) → Seen → Seen → Member → LifeEnd → LifeEnd → Why → Type 0

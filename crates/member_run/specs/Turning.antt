@@ -12,7 +12,7 @@ use Rattle.run_deeds.specs.declared.life_end.Why.{Why}
 use Rattle.run_deeds.specs.declared.life_end.Why.TheVariants.{Done, DiskFault, BadVersion, StampsSpent, ClockFault, EntropyFault, SinkFault}
 use Rattle.run_deeds.specs.Weaving.{Turns}
 use Rattle.run_deeds.specs.Deeds.{all_done, history_after}
-use Rattle.run_deeds.specs.Devices.{Seen}
+use Rattle.edge_seen.specs.Seen.{Seen}
 use Rattle.run_deeds.specs.Parts.{Part}
 use Rattle.run_deeds.specs.Lives.{CallsForBlocks, StandsForBlocks}
 use Rattle.run_deeds.specs.Marks.{IsDue, Reserved, blocks_of}

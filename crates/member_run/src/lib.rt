@@ -4,11 +4,11 @@
 //! all turns are taken or a device fails. [`Running`] is a run between two calls: `start` is its first part, `turn` one
 //! turn, and `resync` a request that was asked for, with its round of receipts. No call takes memory.
 //!
-//! It stands on `sntp_core` for the member, on `stamp_keep` and `slot_disk` for the counts that are reserved before they
-//! are sent, on `capture_fmt` for records, on `line_text` for lines and on `edge_traits` for devices. The layer above may
-//! rely on `Lives` of `run_deeds`, which says of a whole run what each device gave and took, why it ended, and what its
-//! disk stands for, and on `Runs`, the same for each part of one. `specs/Running.antt` says what a run keeps between its
-//! calls, and `specs/Starting.antt` how it begins.
+//! It stands on `sntp_core` for the member, on `stamp_keep` and `slot_disk` for the counts that are reserved before
+//! they are sent, on `capture_fmt` for records, on `line_text` for lines and on `edge_traits` and `edge_seen` for
+//! devices. The layer above may rely on `Lives` of `run_deeds`, which says of a whole run what each device gave and
+//! took, why it ended, and what its disk stands for, and on `Runs`, the same for each part of one. `specs/Running.antt`
+//! says what a run keeps between its calls, and `specs/Starting.antt` how it begins.
 //!
 //! The files, in the order of a run: `life.rt` (the whole), `running.rt` (its start and a turn), `reserving.rt` (counts),
 //! `devices.rt` (readings, words, records and lines), `taking.rt` (an event), `closing.rt` (the last lines), and

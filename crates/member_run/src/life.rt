@@ -1,10 +1,11 @@
 //! A whole run.
 ghost use Rattle.std.specs.Prelude.{◌≡◌, ◌⊎◌, ◌+◌, ◌≤◌, ℕ, List, Some};
+ghost use Rattle.edge_seen.specs.Seen.{Seen};
 ghost use Rattle.stamp_keep.specs.Image.{mark_of_image};
 ghost use Rattle.stamp_keep.specs.Keep.{IsLoadable};
 ghost use Rattle.run_deeds.specs.declared.life_end.Why.{Why};
 ghost use Rattle.run_deeds.specs.Counting.{with_why};
-ghost use Rattle.run_deeds.specs.Devices.{NoneRose, faults, seen};
+ghost use Rattle.run_deeds.specs.Devices.{NoneRose, faults, living};
 ghost use Rattle.run_deeds.specs.Lives.{Lives};
 ghost use Rattle.run_deeds.specs.Parts.{why_of};
 ghost use Rattle.member_run.specs.Running.{totals_of};
@@ -29,12 +30,13 @@ pub fn live<L: Link, C: Clock, D: Disk, E: Entropy, O: Sink>(
     out: &mut O,
     capture: &mut O,
 ) -> LifeEnd
-    ensures lives { Lives conf turns (D.told disk.old) (D.told disk.new)
-        (seen (L.told link.old) (C.told clock.old) (E.words entropy.old) (O.written capture.old)
+    // Whatever the devices tell that are not asked.
+    ensures lives { (others : Seen) → Lives conf turns (D.told disk.old) (D.told disk.new)
+        (living others (L.told link.old) (C.told clock.old) (E.words entropy.old) (O.written capture.old)
         (O.written out.old) (L.faults link.old)
         (faults (C.faults clock.old) (E.faults entropy.old) (D.faults disk.old)
         (O.faults capture.old) (O.faults out.old)))
-        (seen (L.told link.new) (C.told clock.new) (E.words entropy.new) (O.written capture.new)
+        (living others (L.told link.new) (C.told clock.new) (E.words entropy.new) (O.written capture.new)
         (O.written out.new) (L.faults link.new)
         (faults (C.faults clock.new) (E.faults entropy.new) (D.faults disk.new)
         (O.faults capture.new) (O.faults out.new)))
@@ -86,12 +88,13 @@ pub fn live<L: Link, C: Clock, D: Disk, E: Entropy, O: Sink>(
 
 impl Running {
     ghost use Rattle.std.specs.Prelude.{IsErrOf, OnOk};
+    ghost use Rattle.edge_seen.specs.Seen.{Seen};
     ghost use Rattle.slot_disk.specs.Calls.{LeavesOnly};
     ghost use Rattle.stamp_keep.specs.Keep.{KeepsMarks, KeepsUnused};
     ghost use Rattle.time_machine.specs.Events.{History};
     ghost use Rattle.sntp_core.specs.Standing.{StandsForHistory};
     ghost use Rattle.run_deeds.specs.declared.life_end.Why.{Why};
-    ghost use Rattle.run_deeds.specs.Devices.{faults, seen};
+    ghost use Rattle.run_deeds.specs.Devices.{faults, living};
     ghost use Rattle.run_deeds.specs.Marks.{Covers, KeepsLoadable};
     ghost use Rattle.run_deeds.specs.Parts.{why_of};
     ghost use Rattle.member_run.specs.Running.{IsGoing, greatest_of, member_of};
@@ -109,13 +112,13 @@ impl Running {
         capture: &mut O,
     ) -> Result<(), Why>
         requires going { IsGoing (D.told disk.old) self.old }
-        ensures turns { (history : History) → StandsForHistory (member_of self.old) history
+        ensures turns { (others : Seen) (history : History) → StandsForHistory (member_of self.old) history
             → TakesTurns turns history self.old self.new (D.told disk.old) (D.told disk.new)
-            (seen (L.told link.old) (C.told clock.old) (E.words entropy.old) (O.written capture.old)
+            (living others (L.told link.old) (C.told clock.old) (E.words entropy.old) (O.written capture.old)
             (O.written out.old) (L.faults link.old)
             (faults (C.faults clock.old) (E.faults entropy.old) (D.faults disk.old)
             (O.faults capture.old) (O.faults out.old)))
-            (seen (L.told link.new) (C.told clock.new) (E.words entropy.new) (O.written capture.new)
+            (living others (L.told link.new) (C.told clock.new) (E.words entropy.new) (O.written capture.new)
             (O.written out.new) (L.faults link.new)
             (faults (C.faults clock.new) (E.faults entropy.new) (D.faults disk.new)
             (O.faults capture.new) (O.faults out.new)))

@@ -27,12 +27,13 @@ const TOO_BIG: u32 = 3;
 
 impl Running {
     ghost use Rattle.std.specs.Prelude.{◌↔◌, ◌<◌, ℕ, List, Option, IfErr, IsErrOf, OnOk};
+    ghost use Rattle.edge_seen.specs.Seen.{Seen};
     ghost use Rattle.slot_disk.specs.Calls.{LeavesOnly};
     ghost use Rattle.stamp_keep.specs.Keep.{KeepsMarks, KeepsUnused};
     ghost use Rattle.time_machine.specs.Events.{History};
     ghost use Rattle.sntp_core.specs.Standing.{StandsForHistory, conf_of};
     ghost use Rattle.run_deeds.specs.declared.life_end.Why.{Why};
-    ghost use Rattle.run_deeds.specs.Devices.{faults, seen};
+    ghost use Rattle.run_deeds.specs.Devices.{faults, living};
     ghost use Rattle.run_deeds.specs.Marks.{Covers, KeepsLoadable};
     ghost use Rattle.run_deeds.specs.Parts.{why_of};
     ghost use Rattle.run_deeds.specs.Rounds.{Answers, RoundAnswers};
@@ -40,6 +41,7 @@ impl Running {
     ghost use Rattle.member_run.specs.Running.{CallsWhereDue, IsBegun, IsGoing, IsOfReceipt};
     ghost use Rattle.member_run.specs.Running.{IsPart, IsUsedUp, RisesWhereDue, SendsNone};
     ghost use Rattle.member_run.specs.Running.{greatest_of, kept_of, member_of, totals_of};
+    ghost use Rattle.member_run.specs.Taking.{taking};
 
     /// A request that was asked for, with these flags. Where `wait` is not 0, a round of at most 16 receipts follows,
     /// which an accepted arrival or a quiet receipt ends. The result is 0 where `wait` is 0 or the flags lack 2, and
@@ -57,13 +59,13 @@ impl Running {
         capture: &mut O,
     ) -> Result<u32, Why>
         requires going { IsGoing (D.told disk.old) self.old }
-        ensures answers { (history : History) → StandsForHistory (member_of self.old) history
+        ensures answers { (others : Seen) (history : History) → StandsForHistory (member_of self.old) history
             → Answers (conf_of (member_of self.old)) wait flags history
-            (seen (L.told link.old) (C.told clock.old) (E.words entropy.old) (O.written capture.old)
+            (living others (L.told link.old) (C.told clock.old) (E.words entropy.old) (O.written capture.old)
             (O.written out.old) (L.faults link.old)
             (faults (C.faults clock.old) (E.faults entropy.old) (D.faults disk.old)
             (O.faults capture.old) (O.faults out.old)))
-            (seen (L.told link.new) (C.told clock.new) (E.words entropy.new) (O.written capture.new)
+            (living others (L.told link.new) (C.told clock.new) (E.words entropy.new) (O.written capture.new)
             (O.written out.new) (L.faults link.new)
             (faults (C.faults clock.new) (E.faults entropy.new) (D.faults disk.new)
             (O.faults capture.new) (O.faults out.new)))
@@ -106,13 +108,13 @@ impl Running {
         capture: &mut O,
     ) -> Result<(), Why>
         requires going { IsGoing (D.told disk.old) self.old }
-        ensures part { (wait : ℕ)
+        ensures part { (others : Seen) (wait : ℕ)
             → IsPart self.old self.new (CallReading wait flags) (behind_request wait)
-            (seen (L.told link.old) (C.told clock.old) (E.words entropy.old) (O.written capture.old)
+            (living others (L.told link.old) (C.told clock.old) (E.words entropy.old) (O.written capture.old)
             (O.written out.old) (L.faults link.old)
             (faults (C.faults clock.old) (E.faults entropy.old) (D.faults disk.old)
             (O.faults capture.old) (O.faults out.old)))
-            (seen (L.told link.new) (C.told clock.new) (E.words entropy.new) (O.written capture.new)
+            (living others (L.told link.new) (C.told clock.new) (E.words entropy.new) (O.written capture.new)
             (O.written out.new) (L.faults link.new)
             (faults (C.faults clock.new) (E.faults entropy.new) (D.faults disk.new)
             (O.faults capture.new) (O.faults out.new)))
@@ -152,15 +154,13 @@ impl Running {
         capture: &mut O,
     ) -> Result<u32, Why>
         requires begun { IsBegun self.old }
-        ensures round { (words : Option (List ℕ)) (entropy disk : ℕ) (history : History)
+        ensures round { (others : Seen) (history : History)
             → StandsForHistory (member_of self.old) history
             → RoundAnswers (conf_of (member_of self.old)) history
-            (seen (L.told link.old) (C.told clock.old) words (O.written capture.old)
-            (O.written out.old) (L.faults link.old)
-            (faults (C.faults clock.old) entropy disk (O.faults capture.old) (O.faults out.old)))
-            (seen (L.told link.new) (C.told clock.new) words (O.written capture.new)
-            (O.written out.new) (L.faults link.new)
-            (faults (C.faults clock.new) entropy disk (O.faults capture.new) (O.faults out.new)))
+            (taking others (L.told link.old) (C.told clock.old) (O.written capture.old) (O.written out.old)
+            (L.faults link.old) (C.faults clock.old) (O.faults capture.old) (O.faults out.old))
+            (taking others (L.told link.new) (C.told clock.new) (O.written capture.new) (O.written out.new)
+            (L.faults link.new) (C.faults clock.new) (O.faults capture.new) (O.faults out.new))
             (member_of self.new) (kept_of self.old) (totals_of self.old)
             (totals_of self.new) result }
         ensures begun { OnOk result (IsBegun self.new) }

@@ -26,6 +26,7 @@ impl Running {
     ghost use Rattle.edge_traits.specs.Link.{LinkCall, Receive, ReceiptCounts, ReceiptFits};
     ghost use Rattle.base_specs.specs.Told.{Grew};
     ghost use Rattle.edge_traits.specs.declared.link.Receipt.{Receipt};
+    ghost use Rattle.edge_seen.specs.Seen.{Seen};
     ghost use Rattle.capture_fmt.specs.declared.event.Event.{Event};
     ghost use Rattle.slot_disk.specs.Calls.{LeavesOnly};
     ghost use Rattle.stamp_keep.specs.Keep.{IsLeft, IsLoadable, KeepsMarks, KeepsUnused, StandsAsBefore};
@@ -35,7 +36,7 @@ impl Running {
     ghost use Rattle.sntp_core.specs.Standing.{StandsForHistory, conf_of};
     ghost use Rattle.run_deeds.specs.declared.life_end.Why.{Why};
     ghost use Rattle.run_deeds.specs.Counting.{ended};
-    ghost use Rattle.run_deeds.specs.Devices.{faults, seen};
+    ghost use Rattle.run_deeds.specs.Devices.{faults, living};
     ghost use Rattle.run_deeds.specs.Marks.{Covers, KeepsLoadable};
     ghost use Rattle.run_deeds.specs.Parts.{why_of};
     ghost use Rattle.run_deeds.specs.Weaving.{Need, Turns, ReceiptNow};
@@ -44,8 +45,8 @@ impl Running {
     ghost use Rattle.member_run.specs.Running.{greatest_of, kept_of, member_of, totals_of};
     ghost use Rattle.member_run.specs.Closing.{Closes};
     ghost use Rattle.member_run.specs.Reserving.{IsLoadedFrom};
-    ghost use Rattle.member_run.specs.Taking.{TakesAt, TakesTo};
-    ghost use Rattle.member_run.specs.Starting.{Begins, IsOfStart};
+    ghost use Rattle.member_run.specs.Taking.{TakesAt, TakesTo, taking};
+    ghost use Rattle.member_run.specs.Starting.{Begins, IsOfStart, starting};
 
     /// The first part of a run: the keeper is loaded, the clock is read, and the Life is taken, whose mark is what the
     /// disk stands for. The error is never `Done`, `EntropyFault` or `StampsSpent`.
@@ -57,17 +58,12 @@ impl Running {
         capture: &mut O,
     ) -> Result<Running, Why>
         // Whatever the run needs behind its Life, and whatever the devices tell that are not asked.
-        ensures begins { (next : Need) (link : Option (List LinkCall))
-            (words : Option (List ℕ)) (link_faults entropy : ℕ)
+        ensures begins { (others : Seen) (next : Need)
             → Begins conf next (D.told disk.old)
-            (seen link (C.told clock.old) words (O.written capture.old)
-            (O.written out.old) link_faults
-            (faults (C.faults clock.old) entropy (D.faults disk.old)
-            (O.faults capture.old) (O.faults out.old)))
-            (seen link (C.told clock.new) words (O.written capture.new)
-            (O.written out.new) link_faults
-            (faults (C.faults clock.new) entropy (D.faults disk.new)
-            (O.faults capture.new) (O.faults out.new)))
+            (starting others (C.told clock.old) (O.written capture.old) (O.written out.old)
+            (C.faults clock.old) (D.faults disk.old) (O.faults capture.old) (O.faults out.old))
+            (starting others (C.told clock.new) (O.written capture.new) (O.written out.new)
+            (C.faults clock.new) (D.faults disk.new) (O.faults capture.new) (O.faults out.new))
             result }
         ensures going { IfOk result (IsGoing (D.told disk.new)) }
 
@@ -118,12 +114,12 @@ impl Running {
         capture: &mut O,
     ) -> Result<(), Why>
         requires going { IsGoing (D.told disk.old) self.old }
-        ensures part { (left : ℕ) → IsPart self.old self.new (Turns (suc left)) (Turns left)
-            (seen (L.told link.old) (C.told clock.old) (E.words entropy.old) (O.written capture.old)
+        ensures part { (others : Seen) (left : ℕ) → IsPart self.old self.new (Turns (suc left)) (Turns left)
+            (living others (L.told link.old) (C.told clock.old) (E.words entropy.old) (O.written capture.old)
             (O.written out.old) (L.faults link.old)
             (faults (C.faults clock.old) (E.faults entropy.old) (D.faults disk.old)
             (O.faults capture.old) (O.faults out.old)))
-            (seen (L.told link.new) (C.told clock.new) (E.words entropy.new) (O.written capture.new)
+            (living others (L.told link.new) (C.told clock.new) (E.words entropy.new) (O.written capture.new)
             (O.written out.new) (L.faults link.new)
             (faults (C.faults clock.new) (E.faults entropy.new) (D.faults disk.new)
             (O.faults capture.new) (O.faults out.new)))
@@ -179,12 +175,12 @@ impl Running {
         capture: &mut O,
     ) -> Result<(), Why>
         requires going { IsGoing (D.told disk.old) self.old }
-        ensures part { (left : ℕ) → IsPart self.old self.new (Turns (suc left)) (ReceiptNow left)
-            (seen (L.told link.old) (C.told clock.old) (E.words entropy.old) (O.written capture.old)
+        ensures part { (others : Seen) (left : ℕ) → IsPart self.old self.new (Turns (suc left)) (ReceiptNow left)
+            (living others (L.told link.old) (C.told clock.old) (E.words entropy.old) (O.written capture.old)
             (O.written out.old) (L.faults link.old)
             (faults (C.faults clock.old) (E.faults entropy.old) (D.faults disk.old)
             (O.faults capture.old) (O.faults out.old)))
-            (seen (L.told link.new) (C.told clock.new) (E.words entropy.new) (O.written capture.new)
+            (living others (L.told link.new) (C.told clock.new) (E.words entropy.new) (O.written capture.new)
             (O.written out.new) (L.faults link.new)
             (faults (C.faults clock.new) (E.faults entropy.new) (D.faults disk.new)
             (O.faults capture.new) (O.faults out.new)))
@@ -220,17 +216,15 @@ impl Running {
     ) -> Result<(), Why>
         requires begun { IsBegun self.old }
         requires fits { ReceiptFits receipt }
-        ensures part { (left : ℕ) (words : Option (List ℕ)) (entropy disk : ℕ)
+        ensures part { (others : Seen) (left : ℕ)
             (told : Option (List LinkCall)) (faults_told : ℕ)
             → Grew told (L.told link.old) (Receive receipt ∷ [])
             → ReceiptCounts receipt faults_told (L.faults link.old)
             → IsPart self.old self.new (ReceiptNow left) (Turns left)
-            (seen told (C.told clock.old) words (O.written capture.old)
-            (O.written out.old) faults_told
-            (faults (C.faults clock.old) entropy disk (O.faults capture.old) (O.faults out.old)))
-            (seen (L.told link.new) (C.told clock.new) words (O.written capture.new)
-            (O.written out.new) (L.faults link.new)
-            (faults (C.faults clock.new) entropy disk (O.faults capture.new) (O.faults out.new)))
+            (taking others told (C.told clock.old) (O.written capture.old) (O.written out.old)
+            faults_told (C.faults clock.old) (O.faults capture.old) (O.faults out.old))
+            (taking others (L.told link.new) (C.told clock.new) (O.written capture.new) (O.written out.new)
+            (L.faults link.new) (C.faults clock.new) (O.faults capture.new) (O.faults out.new))
             (why_of result) }
         ensures begun { OnOk result (IsBegun self.new) }
         ensures sends_none { SendsNone self.old self.new }
@@ -264,26 +258,22 @@ impl Running {
     ) -> Result<Outcome, Why>
         requires begun { IsBegun self.old }
         requires fits { ReceiptFits (Receipt.Got from bytes) }
-        ensures takes { (words : Option (List ℕ)) (entropy disk : ℕ) (history : History)
+        ensures takes { (others : Seen) (history : History)
             → StandsForHistory (member_of self.old) history
             → TakesAt (conf_of (member_of self.old)) history (λ now. Event.Arrive now from bytes)
-            (seen (L.told link.old) (C.told clock.old) words (O.written capture.old)
-            (O.written out.old) (L.faults link.old)
-            (faults (C.faults clock.old) entropy disk (O.faults capture.old) (O.faults out.old)))
-            (seen (L.told link.new) (C.told clock.new) words (O.written capture.new)
-            (O.written out.new) (L.faults link.new)
-            (faults (C.faults clock.new) entropy disk (O.faults capture.new) (O.faults out.new)))
+            (taking others (L.told link.old) (C.told clock.old) (O.written capture.old) (O.written out.old)
+            (L.faults link.old) (C.faults clock.old) (O.faults capture.old) (O.faults out.old))
+            (taking others (L.told link.new) (C.told clock.new) (O.written capture.new) (O.written out.new)
+            (L.faults link.new) (C.faults clock.new) (O.faults capture.new) (O.faults out.new))
             (member_of self.new) (totals_of self.old) (totals_of self.new) (why_of result) }
         // The answer is what it led to.
-        ensures outcome { IfOk result (λ outcome. (words : Option (List ℕ)) (entropy disk : ℕ)
+        ensures outcome { IfOk result (λ outcome. (others : Seen)
             (history : History) → StandsForHistory (member_of self.old) history
             → TakesTo (conf_of (member_of self.old)) history (λ now. Event.Arrive now from bytes)
-            (seen (L.told link.old) (C.told clock.old) words (O.written capture.old)
-            (O.written out.old) (L.faults link.old)
-            (faults (C.faults clock.old) entropy disk (O.faults capture.old) (O.faults out.old)))
-            (seen (L.told link.new) (C.told clock.new) words (O.written capture.new)
-            (O.written out.new) (L.faults link.new)
-            (faults (C.faults clock.new) entropy disk (O.faults capture.new) (O.faults out.new)))
+            (taking others (L.told link.old) (C.told clock.old) (O.written capture.old) (O.written out.old)
+            (L.faults link.old) (C.faults clock.old) (O.faults capture.old) (O.faults out.old))
+            (taking others (L.told link.new) (C.told clock.new) (O.written capture.new) (O.written out.new)
+            (L.faults link.new) (C.faults clock.new) (O.faults capture.new) (O.faults out.new))
             (member_of self.new) (totals_of self.old) (totals_of self.new) outcome) }
         ensures begun { IsBegun self.new }
         ensures sends_none { SendsNone self.old self.new }

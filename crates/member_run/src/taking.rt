@@ -12,18 +12,16 @@ impl Running {
     ghost use Rattle.std.specs.Prelude.{Err};
     ghost use Rattle.capture_fmt.specs.Event.{EventFits};
     ghost use Rattle.capture_fmt.specs.Record.{event_bytes};
-    ghost use Rattle.edge_traits.specs.Clock.{ClockCall};
-    ghost use Rattle.edge_traits.specs.Link.{LinkCall};
+    ghost use Rattle.edge_seen.specs.Seen.{Seen};
     ghost use Rattle.time_machine.specs.Events.{History, IsRead, is_life, mark_of};
     ghost use Rattle.run_deeds.specs.declared.life_end.Why.{Why};
     ghost use Rattle.time_machine.specs.Growing.{MayFollow};
     ghost use Rattle.sntp_core.specs.Standing.{StandsForHistory, conf_of, words_of};
     ghost use Rattle.run_deeds.specs.Counting.{counted};
-    ghost use Rattle.run_deeds.specs.Devices.{faults, seen};
     ghost use Rattle.run_deeds.specs.Parts.{why_of};
     ghost use Rattle.member_run.specs.Asking.{WrittenBy};
     ghost use Rattle.member_run.specs.Taking.{Acts, IsCut, IsTaken, Sends, Steps, Takes};
-    ghost use Rattle.member_run.specs.Taking.{last_after};
+    ghost use Rattle.member_run.specs.Taking.{last_after, taking, writing};
 
     /// Takes an event: writes its record, steps the member, sends a request or corrects the clock, and prints the
     /// line. An event whose record could not be written is not taken.
@@ -41,15 +39,13 @@ impl Running {
         requires read { IsRead event.now }
 
         // No other device is asked.
-        ensures takes { (words : Option (List ℕ)) (entropy disk : ℕ) (history : History)
+        ensures takes { (others : Seen) (history : History)
             → StandsForHistory self.old.member history
             → Takes (conf_of self.old.member) history event.now []
-            (seen (L.told link.old) (C.told clock.old) words (O.written capture.old)
-            (O.written out.old) (L.faults link.old)
-            (faults (C.faults clock.old) entropy disk (O.faults capture.old) (O.faults out.old)))
-            (seen (L.told link.new) (C.told clock.new) words (O.written capture.new)
-            (O.written out.new) (L.faults link.new)
-            (faults (C.faults clock.new) entropy disk (O.faults capture.new) (O.faults out.new)))
+            (taking others (L.told link.old) (C.told clock.old) (O.written capture.old) (O.written out.old)
+            (L.faults link.old) (C.faults clock.old) (O.faults capture.old) (O.faults out.old))
+            (taking others (L.told link.new) (C.told clock.new) (O.written capture.new) (O.written out.new)
+            (L.faults link.new) (C.faults clock.new) (O.faults capture.new) (O.faults out.new))
             self.new.member self.old.totals self.new.totals (why_of result) }
         ensures taken { IfOk result (IsTaken self.old self.new event.now) }
         ensures cut { OnErr result (IsCut self.old self.new event.now) }
@@ -73,15 +69,13 @@ impl Running {
         requires fits { EventFits event.now }
         requires read { IsRead event.now }
         requires life { IsTrue (is_life event.now) }
-        ensures takes { (link : Option (List LinkCall)) (clock : Option (List ClockCall))
-            (words : Option (List ℕ)) (link_faults clock_faults entropy disk : ℕ)
-            (history : History)
+        ensures takes { (others : Seen) (history : History)
             → StandsForHistory self.old.member history
             → Takes (conf_of self.old.member) history event.now []
-            (seen link clock words (O.written capture.old) (O.written out.old) link_faults
-            (faults clock_faults entropy disk (O.faults capture.old) (O.faults out.old)))
-            (seen link clock words (O.written capture.new) (O.written out.new) link_faults
-            (faults clock_faults entropy disk (O.faults capture.new) (O.faults out.new)))
+            (writing others (O.written capture.old) (O.written out.old)
+            (O.faults capture.old) (O.faults out.old))
+            (writing others (O.written capture.new) (O.written out.new)
+            (O.faults capture.new) (O.faults out.new))
             self.new.member self.old.totals self.new.totals (why_of result) }
         ensures stands { OnOk result ((history : History) → StandsForHistory self.old.member history
             → StandsForHistory self.new.member (event.now ∷ history)) }

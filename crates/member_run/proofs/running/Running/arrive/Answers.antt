@@ -6,11 +6,11 @@ use Rattle.member_run.proofs.Receiving.{led_to, takes_read}
 use Rattle.member_run.proofs.running.Running.arrive.Goals as goal
 
 pub returns-clause-takes : goal.returns-clause-takes
-returns-clause-takes g c = λ words entropy disk history stands.
+returns-clause-takes g c = λ others history stands.
     let gives = c.in_ok-now.ensures.gives in
     let read = to_z-of_z w64 c.in_ok-now.now (search rules) in
-    let takes = rw read at c.take.ensures.takes words entropy disk history stands in
-    takes_read _ history (λ (now : ℤ). Arrive now c.args.from c.args.bytes) c.take.new.self.member _ _ _ words _ _ _ _ _ entropy disk _ _ _ _ _ _ c.in_ok-now.now gives.0 gives.1 takes
+    let takes = rw read at c.take.ensures.takes others history stands in
+    takes_read others _ history (λ (now : ℤ). Arrive now c.args.from c.args.bytes) c.take.new.self.member _ _ _ others.words _ _ _ _ _ others.entropy_faults others.disk_faults _ _ _ _ _ _ c.in_ok-now.now gives.0 gives.1 takes
 
 pub returns-clause-outcome : goal.returns-clause-outcome
 returns-clause-outcome g c =

@@ -9,32 +9,32 @@ returns-in_err-request-clause-answers g c =
     let p = err_from_is_err_and c.from_residual.result c.from_residual.ensures.1 in
     let e = c.in_err-request.ensures in
     rw (p.1, p.2)
-    (λ history stands.
-    answers_fault _ c.args.wait c.args.flags (behind_request c.args.wait) history _ _ _ _ _ _ _ c.in_err-request.field-0.0 (λ is. e.never.0 (ap Err is)) (e.part c.args.wait history stands))
+    (λ others history stands.
+    answers_fault _ c.args.wait c.args.flags (behind_request c.args.wait) history _ _ _ _ _ _ _ c.in_err-request.field-0.0 (λ is. e.never.0 (ap Err is)) (e.part others c.args.wait history stands))
 
 pub returns-then-wait-eq0-clause-answers : goal.returns-then-wait-eq0-clause-answers
 returns-then-wait-eq0-clause-answers g c =
-    λ history stands. answers_now _ c.args.wait c.args.flags history _ _ _ _ _ _ _ c.if-wait-eq0.true (c.in_ok-request.ensures.part c.args.wait history stands)
+    λ others history stands. answers_now _ c.args.wait c.args.flags history _ _ _ _ _ _ _ c.if-wait-eq0.true (c.in_ok-request.ensures.part others c.args.wait history stands)
 
 pub returns-in_err-result-clause-answers : goal.returns-in_err-result-clause-answers
 returns-in_err-result-clause-answers g c =
     let p = err_from_is_err_and c.from_residual-in_err-result.result c.from_residual-in_err-result.ensures.1 in
     let e = c.in_err-result.ensures in
     rw (p.1, p.2)
-    (λ history stands.
-    answers_cut c.args.wait c.args.flags c.args.self.now c.request.new.self c.round.new.self _ _ _ history c.if-wait-eq0.false stands (c.in_ok-request.ensures.part 0) e.sends_none c.in_err-result.field-0.0 e.never
-    (e.round (g.E.Entropy.words c.request.new.entropy) (g.E.Entropy.faults c.request.new.entropy) (g.D.Disk.faults c.request.new.disk)))
+    (λ others history stands.
+    answers_cut c.args.wait c.args.flags c.args.self.now c.request.new.self c.round.new.self _ _ _ history c.if-wait-eq0.false stands (c.in_ok-request.ensures.part others 0) e.sends_none c.in_err-result.field-0.0 e.never
+    (e.round (record others { words = g.E.Entropy.words c.request.new.entropy; entropy_faults = g.E.Entropy.faults c.request.new.entropy; disk_faults = g.D.Disk.faults c.request.new.disk })))
 
 pub returns-then-flags-eq0-clause-answers : goal.returns-then-flags-eq0-clause-answers
 returns-then-flags-eq0-clause-answers g c =
     let e = c.in_ok-result.ensures in
-    λ history stands.
-    answers_plain c.args.wait c.args.flags c.args.self.now c.request.new.self c.round.new.self _ _ _ history c.if-wait-eq0.false stands (c.in_ok-request.ensures.part 0) e.sends_none c.in_ok-result.result c.if-flags-eq0.true
-    (e.round (g.E.Entropy.words c.request.new.entropy) (g.E.Entropy.faults c.request.new.entropy) (g.D.Disk.faults c.request.new.disk))
+    λ others history stands.
+    answers_plain c.args.wait c.args.flags c.args.self.now c.request.new.self c.round.new.self _ _ _ history c.if-wait-eq0.false stands (c.in_ok-request.ensures.part others 0) e.sends_none c.in_ok-result.result c.if-flags-eq0.true
+    (e.round (record others { words = g.E.Entropy.words c.request.new.entropy; entropy_faults = g.E.Entropy.faults c.request.new.entropy; disk_faults = g.D.Disk.faults c.request.new.disk }))
 
 pub returns-else-flags-eq0-clause-answers : goal.returns-else-flags-eq0-clause-answers
 returns-else-flags-eq0-clause-answers g c =
     let e = c.in_ok-result.ensures in
-    λ history stands.
-    answers_result c.args.wait c.args.flags c.args.self.now c.request.new.self c.round.new.self _ _ _ history c.if-wait-eq0.false stands (c.in_ok-request.ensures.part 0) e.sends_none c.in_ok-result.result c.if-flags-eq0.false
-    (e.round (g.E.Entropy.words c.request.new.entropy) (g.E.Entropy.faults c.request.new.entropy) (g.D.Disk.faults c.request.new.disk))
+    λ others history stands.
+    answers_result c.args.wait c.args.flags c.args.self.now c.request.new.self c.round.new.self _ _ _ history c.if-wait-eq0.false stands (c.in_ok-request.ensures.part others 0) e.sends_none c.in_ok-result.result c.if-flags-eq0.false
+    (e.round (record others { words = g.E.Entropy.words c.request.new.entropy; entropy_faults = g.E.Entropy.faults c.request.new.entropy; disk_faults = g.D.Disk.faults c.request.new.disk }))

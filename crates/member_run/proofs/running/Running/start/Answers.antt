@@ -11,8 +11,8 @@ returns-in_err-keeper-clause-begins g c =
     let p = err_from_is_err_and c.from_residual.result c.from_residual.ensures.1 in
     let e = c.in_err-keeper.ensures in
     rw (p.1, p.2)
-    (λ next link words link_faults entropy.
-    no_keeper c.args.conf next _ link _ words _ _ link_faults _ entropy _ _ _ _ _ e.cause (λ is. e.never_spent (cc is)))
+    (λ others next.
+    no_keeper others c.args.conf next _ others.link _ others.words _ _ others.link_faults _ others.entropy_faults _ _ _ _ _ e.cause (λ is. e.never_spent (cc is)))
 
 pub returns-in_err-now-clause-begins : goal.returns-in_err-now-clause-begins
 returns-in_err-now-clause-begins g c =
@@ -20,8 +20,8 @@ returns-in_err-now-clause-begins g c =
     let gives = c.in_err-now.ensures.gives in
     let kept = c.in_ok-keeper.ensures in
     rw (p.1, p.2)
-    (λ next link words link_faults entropy.
-    no_life c.args.conf next _ (kept_mark c.in_ok-keeper.keeper) link _ _ words _ _ link_faults _ _ entropy _ _ _ _ _ kept.mark gives.0 gives.1 gives.2 kept.cause)
+    (λ others next.
+    no_life others c.args.conf next _ (kept_mark c.in_ok-keeper.keeper) others.link _ _ others.words _ _ others.link_faults _ _ others.entropy_faults _ _ _ _ _ kept.mark gives.0 gives.1 gives.2 kept.cause)
 
 pub take_life-requires-clause-admitted : goal.take_life-requires-clause-admitted
 take_life-requires-clause-admitted g c = omega (arith, fresh_greatest c.new.result c.new.ensures.stands)
@@ -35,10 +35,10 @@ returns-in_err-take_life-clause-begins g c =
     let sink : c.in_err-take_life.field-0.0 ≡ SinkFault = cc c.in_err-take_life.ensures.why in
     let uncounted = c.take_life.ensures.totals [] c.new.ensures.stands ∙ c.nothing.ensures in
     rw (p.1, p.2)
-    (λ next link words link_faults entropy.
+    (λ others next.
     let takes = rw (time, c.mark-mark.ensures, c.nothing.ensures) at c.in_err-take_life.ensures.takes
-    link (g.C.Clock.told c.read.new.clock) words link_faults (g.C.Clock.faults c.read.new.clock) entropy (g.D.Disk.faults c.load.new.disk) [] c.new.ensures.stands in
-    life_cut _ c.args.conf next _ c.in_ok-now.now (kept_mark c.in_ok-keeper.keeper) link _ _ words _ _ link_faults _ _ entropy _ _ _ _ _ c.take_life.new.self.member _ _
+    (record others { clock = g.C.Clock.told c.read.new.clock; clock_faults = g.C.Clock.faults c.read.new.clock; disk_faults = g.D.Disk.faults c.load.new.disk }) [] c.new.ensures.stands in
+    life_cut others _ c.args.conf next _ c.in_ok-now.now (kept_mark c.in_ok-keeper.keeper) others.link _ _ others.words _ _ others.link_faults _ _ others.entropy_faults _ _ _ _ _ c.take_life.new.self.member _ _
     c.new.ensures.conf kept.mark gives.0 gives.1 kept.cause sink uncounted takes)
 
 pub returns-clause-begins : goal.returns-clause-begins
@@ -46,10 +46,10 @@ returns-clause-begins g c =
     let time = to_z-of_z w64 c.in_ok-now.now (search rules) in
     let gives = c.in_ok-now.ensures.gives in
     let kept = c.in_ok-keeper.ensures in
-    λ next link words link_faults entropy.
+    λ others next.
     let takes = rw (time, c.mark-mark.ensures, c.nothing.ensures) at c.in_ok-take_life.ensures.takes
-    link (g.C.Clock.told c.read.new.clock) words link_faults (g.C.Clock.faults c.read.new.clock) entropy (g.D.Disk.faults c.load.new.disk) [] c.new.ensures.stands in
-    life_taken _ c.args.conf next _ c.in_ok-now.now (kept_mark c.in_ok-keeper.keeper) link _ _ words _ _ link_faults _ _ entropy _ _ _ _ _ c.take_life.new.self
+    (record others { clock = g.C.Clock.told c.read.new.clock; clock_faults = g.C.Clock.faults c.read.new.clock; disk_faults = g.D.Disk.faults c.load.new.disk }) [] c.new.ensures.stands in
+    life_taken others _ c.args.conf next _ c.in_ok-now.now (kept_mark c.in_ok-keeper.keeper) others.link _ _ others.words _ _ others.link_faults _ _ others.entropy_faults _ _ _ _ _ c.take_life.new.self
     c.new.ensures.conf kept.mark (ap kept_mark c.take_life.ensures.keeper) gives.0 gives.1 kept.cause takes
 
 pub returns-clause-going : goal.returns-clause-going

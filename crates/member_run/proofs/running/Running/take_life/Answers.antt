@@ -11,13 +11,13 @@ returns-in_err-outcome-clause-takes g c =
     let fault : c.in_err-outcome.field-0.0 ≡ SinkFault = cc c.in_err-outcome.ensures.why in
     let wrote = rw fault at c.in_err-outcome.ensures.record_bytes in
     rw (p.1, p.2, fault, c.in_err-outcome.ensures.err)
-    (λ link clock words link_faults clock_faults entropy disk history stands.
-    no_record _ history c.args.event.now c.args.self.now.member link clock words _ _ _ link_faults clock_faults entropy disk _ _ _ c.args.self.now.totals refl stands c.requires.fits wrote)
+    (λ others history stands.
+    no_record others _ history c.args.event.now c.args.self.now.member others.link others.clock others.words _ _ _ others.link_faults others.clock_faults others.entropy_faults others.disk_faults _ _ _ c.args.self.now.totals refl stands c.requires.fits wrote)
 
 pub returns-clause-takes : goal.returns-clause-takes
-returns-clause-takes g c = λ link clock words link_faults clock_faults entropy disk history stands.
+returns-clause-takes g c = λ others history stands.
     let step = c.in_ok-outcome.ensures.steps history stands in
-    takes_life _ history c.args.event.now c.in_ok-outcome.outcome c.step.new.self.member link clock words _ _ _ _ link_faults clock_faults entropy disk _ _ _ _ _ _ _
+    takes_life others _ history c.args.event.now c.in_ok-outcome.outcome c.step.new.self.member others.link others.clock others.words _ _ _ _ others.link_faults others.clock_faults others.entropy_faults others.disk_faults _ _ _ _ _ _ _
     c.requires.life c.in_ok-outcome.ensures.conf step.1 c.requires.fits step.0 c.in_ok-outcome.ensures.record_bytes c.in_ok-outcome.ensures.totals c.write_line.ensures.bytes
     (on_fault c.write_line.result c.write_line.ensures.has_line)
 

@@ -22,8 +22,8 @@ returns-in_err-ensure_count-clause-part g c =
     let p = err_from_is_err_and c.from_residual.result c.from_residual.ensures.1 in
     let e = c.in_err-ensure_count.ensures in
     rw (p.1, p.2, e.err)
-    (λ left history stands.
-    no_count _ (Turns (suc left)) (ReceiptNow left) history c.args.self.now.member _ _ _ _ _ _ _ _ _ _ _ _ _ _ _ _ refl stands (omega arith) (omega arith) e.cause (λ is. e.never_version (cc is)))
+    (λ others left history stands.
+    no_count others _ (Turns (suc left)) (ReceiptNow left) history c.args.self.now.member _ _ _ _ _ _ _ _ _ _ _ _ _ _ _ _ refl stands (omega arith) (omega arith) e.cause (λ is. e.never_version (cc is)))
 
 pub returns-in_err-now-clause-part : goal.returns-in_err-now-clause-part
 returns-in_err-now-clause-part g c =
@@ -32,8 +32,8 @@ returns-in_err-now-clause-part g c =
     let totals = ap totals_of c.ensure_count.ensures.same in
     let gives = c.in_err-now.ensures.gives in
     rw (p.1, p.2, member, totals)
-    (λ left history stands.
-    no_reading _ (Turns (suc left)) (ReceiptNow left) history c.args.self.now.member _ _ _ _ _ _ _ _ _ _ _ _ _ _ _ _ _ _ refl stands (omega arith) gives.0 gives.1 gives.2 c.in_ok-ensure_count.ensures.cause)
+    (λ others left history stands.
+    no_reading others _ (Turns (suc left)) (ReceiptNow left) history c.args.self.now.member _ _ _ _ _ _ _ _ _ _ _ _ _ _ _ _ _ _ refl stands (omega arith) gives.0 gives.1 gives.2 c.in_ok-ensure_count.ensures.cause)
 
 pub returns-in_err-word-clause-part : goal.returns-in_err-word-clause-part
 returns-in_err-word-clause-part g c =
@@ -43,8 +43,8 @@ returns-in_err-word-clause-part g c =
     let read = c.in_ok-now.ensures.gives in
     let drew = c.in_err-word.ensures.gives in
     rw (p.1, p.2, member, totals)
-    (λ left history stands.
-    no_word _ (Turns (suc left)) (WordFor left c.in_ok-now.now) (ReceiptNow left) history c.args.self.now.member _ _ _ _ _ _ _ _ _ _ _ _ _ _ _ _ _ _ _ _ c.in_ok-now.now refl stands tt (reads none)
+    (λ others left history stands.
+    no_word others _ (Turns (suc left)) (WordFor left c.in_ok-now.now) (ReceiptNow left) history c.args.self.now.member _ _ _ _ _ _ _ _ _ _ _ _ _ _ _ _ _ _ _ _ c.in_ok-now.now refl stands tt (reads none)
     drew.0 read.0 read.1 drew.1 drew.2 c.in_ok-ensure_count.ensures.cause)
 
 pub returns-in_err-take-clause-part : goal.returns-in_err-take-clause-part
@@ -57,9 +57,9 @@ returns-in_err-take-clause-part g c =
     let drew = c.in_ok-word.ensures.gives in
     let kept = cut_keeper _ _ _ c.in_err-take.ensures.cut in
     rw (p.1, p.2, kept)
-    (λ left history stands.
-    let takes = rw (time, member, totals) at c.in_err-take.ensures.takes (g.E.Entropy.words c.draw.new.entropy) (g.E.Entropy.faults c.draw.new.entropy) (g.D.Disk.faults c.ensure_count.new.disk) history stands in
-    takes_drawn _ (Turns (suc left)) (ReceiptNow left) history (Tick c.in_ok-now.now c.in_ok-word.word) c.take.new.self.member _ _ _ _ _ _ _ _ _ _ _ _ _ _ _ _ _ _ _ _ _ _ c.in_ok-now.now c.in_ok-word.word
+    (λ others left history stands.
+    let takes = rw (time, member, totals) at c.in_err-take.ensures.takes (record others { words = g.E.Entropy.words c.draw.new.entropy; entropy_faults = g.E.Entropy.faults c.draw.new.entropy; disk_faults = g.D.Disk.faults c.ensure_count.new.disk }) history stands in
+    takes_drawn others _ (Turns (suc left)) (ReceiptNow left) history (Tick c.in_ok-now.now c.in_ok-word.word) c.take.new.self.member _ _ _ _ _ _ _ _ _ _ _ _ _ _ _ _ _ _ _ _ _ _ c.in_ok-now.now c.in_ok-word.word
     read.0 read.1 drew.1 drew.2 c.in_ok-ensure_count.ensures.cause takes (λ cs ls need s. reads (draws s)) tt
     (asks_reserved c.args.self.now.member history (Tick c.in_ok-now.now c.in_ok-word.word) _ _ _ refl stands c.requires.going.begun.last c.in_ok-ensure_count.ensures.reserves))
 
@@ -72,9 +72,9 @@ returns-clause-part g c =
     let drew = c.in_ok-word.ensures.gives in
     let kept = ap kept_mark c.in_ok-take.ensures.taken.keeper in
     rw kept
-    (λ left history stands.
-    let takes = rw (time, member, totals) at c.in_ok-take.ensures.takes (g.E.Entropy.words c.draw.new.entropy) (g.E.Entropy.faults c.draw.new.entropy) (g.D.Disk.faults c.ensure_count.new.disk) history stands in
-    takes_drawn _ (Turns (suc left)) (ReceiptNow left) history (Tick c.in_ok-now.now c.in_ok-word.word) c.take.new.self.member _ _ _ _ _ _ _ _ _ _ _ _ _ _ _ _ _ _ _ _ _ _ c.in_ok-now.now c.in_ok-word.word
+    (λ others left history stands.
+    let takes = rw (time, member, totals) at c.in_ok-take.ensures.takes (record others { words = g.E.Entropy.words c.draw.new.entropy; entropy_faults = g.E.Entropy.faults c.draw.new.entropy; disk_faults = g.D.Disk.faults c.ensure_count.new.disk }) history stands in
+    takes_drawn others _ (Turns (suc left)) (ReceiptNow left) history (Tick c.in_ok-now.now c.in_ok-word.word) c.take.new.self.member _ _ _ _ _ _ _ _ _ _ _ _ _ _ _ _ _ _ _ _ _ _ c.in_ok-now.now c.in_ok-word.word
     read.0 read.1 drew.1 drew.2 c.in_ok-ensure_count.ensures.cause takes (λ cs ls need s. reads (draws s)) tt
     (asks_reserved c.args.self.now.member history (Tick c.in_ok-now.now c.in_ok-word.word) _ _ _ refl stands c.requires.going.begun.last c.in_ok-ensure_count.ensures.reserves))
 
