@@ -14,6 +14,7 @@ pub mod Servo
 pub mod SessionScript
 pub mod SinkScript
 pub mod SourceScript
+pub mod TcpWire
 pub mod WireScript
 pub mod Writes
 pub use Rattle.base_specs.specs.Counts

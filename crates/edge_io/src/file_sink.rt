@@ -91,42 +91,62 @@ impl<R: Files + Drop> Sink for FileSink<R> {
 #[cfg(test)]
 mod tests {
     use super::*;
+    use std::io::ErrorKind;
     use std::test::Fail;
 
     const FOLDER: &str = "edge_io_test";
 
     const PATH: &str = "edge_io_test/capture";
 
+    /// Whether the file holds this, or is missing where this is none.
+    fn holds(rt: &HostRuntime, want: Option<&str>) -> bool {
+        match fs::read_to_string(rt, PATH) {
+            Ok(text) => want == Some(text.as_str()),
+            Err(error) => want.is_none() && error.kind() == ErrorKind::NotFound,
+        }
+    }
+
+    /// Whether a sink touches nothing before its first piece, and then the file holds the pieces.
+    fn takes_pieces(rt: &HostRuntime, path: String, before: Option<&str>) -> bool {
+        let mut sink = FileSink::new(rt, path);
+        holds(rt, before)
+            && sink.write(b"abc") == Put::Done
+            && holds(rt, Some("abc"))
+            && sink.write(b"d") == Put::Done
+            && holds(rt, Some("abcd"))
+            && sink.faults == 0
+    }
+
+    /// Whether each write of a sink fails.
+    fn refuses_pieces(rt: &HostRuntime, path: String) -> bool {
+        let mut sink = FileSink::new(rt, path);
+        sink.write(b"abc") == Put::Failed && sink.write(b"d") == Put::Failed && sink.faults == 2
+    }
+
     #[test]
     fn files_as_sinks(rt: HostRuntime) -> Result<(), Fail> {
         let _ = fs::remove_dir_all(&rt, FOLDER);
         fs::create_dir(&rt, FOLDER)?;
         // A file that is missing, one that is shorter than what is written, and one that is longer.
-        for before in ["", "x", "a longer one"] {
-            if !before.is_empty() {
-                fs::write(&rt, PATH, before)?;
+        for before in [None, Some("x"), Some("a longer one")] {
+            if let Some(text) = before {
+                fs::write(&rt, PATH, text)?;
             }
-            let mut sink = FileSink::new(&rt, String::from_str(rt.alloc(), PATH)?);
-            // Nothing is touched before the first piece.
-            assert_eq!(rt; fs::exists(&rt, PATH)?, !before.is_empty());
-            if !before.is_empty() {
-                assert_eq!(rt; fs::read_to_string(&rt, PATH)?.as_str(), before);
-            }
-            assert_eq!(rt; sink.write(b"abc"), Put::Done);
-            assert_eq!(rt; fs::read_to_string(&rt, PATH)?.as_str(), "abc");
-            assert_eq!(rt; sink.write(b"d"), Put::Done);
-            assert_eq!(rt; fs::read_to_string(&rt, PATH)?.as_str(), "abcd");
-            assert_eq!(rt; sink.faults, 0);
+            let path = String::from_str(rt.alloc(), PATH)?;
+            assert!(rt; takes_pieces(&rt, path, before));
             fs::remove_file(&rt, PATH)?;
         }
-        // What can't be opened, a folder, and a device that is full.
-        for path in ["/proc/no/such", FOLDER, "/dev/full"] {
-            let mut sink = FileSink::new(&rt, String::from_str(rt.alloc(), path)?);
-            assert_eq!(rt; sink.write(b"abc"), Put::Failed, "{path}");
-            assert_eq!(rt; sink.write(b"d"), Put::Failed, "{path}");
-            assert_eq!(rt; sink.faults, 2, "{path}");
+        fs::remove_dir(&rt, FOLDER)?;
+        Ok(())
+    }
+
+    #[test]
+    fn files_that_cant_be_opened(rt: HostRuntime) -> Result<(), Fail> {
+        // What is missing, a folder, and a device that is full.
+        for path in ["/proc/no/such", "/proc", "/dev/full"] {
+            let path = String::from_str(rt.alloc(), path)?;
+            assert!(rt; refuses_pieces(&rt, path));
         }
-        fs::remove_dir_all(&rt, FOLDER)?;
         Ok(())
     }
 }

@@ -11,12 +11,12 @@
 //! `LinkEntry` or `ClockEntry` each, so that their order is told. The memory of the lists is taken when the object is
 //! made.
 //!
-//! An adapter (`ReaderSource`, `WriterSink`, `FileSink`, `RealClock`, `SampleClock`, `UdpLink`, `RandomFile`) tells
-//! nothing, and says what it makes of what the reader, the writer or the machine's clock gave. What these give is trusted,
-//! and what a socket gives and takes. `file_source` and `random_file` open files. A `FileSink` opens its file with the
-//! first piece, so a file to which nothing is written stays as it was. What can't be opened is a `ClosedSource`, a
-//! `FileSink` without a file, a link without a socket or words without a file: each call fails. `NullSink` takes all and
-//! keeps nothing.
+//! An adapter (`ReaderSource`, `WriterSink`, `FileSink`, `RealClock`, `SampleClock`, `UdpLink`, `TcpWire`, `RandomFile`)
+//! tells nothing, and says what it makes of what the reader, the writer or the machine's clock gave. What these give is
+//! trusted, and what a socket gives and takes. `file_source` and `random_file` open files. A `FileSink` opens its file with
+//! the first piece, so a file to which nothing is written stays as it was. What can't be opened is a `ClosedSource`, a
+//! `FileSink` without a file, a link or a wire without a socket or words without a file: each call fails that can. `NullSink`
+//! takes all and keeps nothing.
 //!
 //! A `RealClock` makes its corrections itself and leaves the machine's clock as it is; a `SampleClock` reads the machine's
 //! clock and hands each correction to chronyd, as a sample.
@@ -25,8 +25,8 @@
 //! it.
 //!
 //! The definitions stand in `specs/`: a file of its own for each object, `Calls`, `Pieces`, `Writes` and `SessionScript`
-//! for their parts, `Held`, `LateFile`, `CorrectedClock`, `Correction`, `Servo`, `Sample`, `Scaling` and `SampleClock`
-//! for the adapters. Those of the traits are handed on.
+//! for their parts, `Held`, `LateFile`, `CorrectedClock`, `Correction`, `Servo`, `Sample`, `Scaling`,
+//! `SampleClock` and `TcpWire` for the adapters. Those of the traits are handed on.
 #![tactic(auto)]
 
 mod calls;
@@ -46,6 +46,7 @@ mod sample_clock;
 mod session;
 mod sink;
 mod source;
+mod tcp_wire;
 #[cfg(test)]
 mod tests;
 mod udp_link;
@@ -69,6 +70,7 @@ pub use real_clock::RealClock;
 pub use sample_clock::SampleClock;
 pub use sink::{NullSink, ScriptSink};
 pub use source::ScriptSource;
+pub use tcp_wire::TcpWire;
 pub use udp_link::UdpLink;
 pub use wire::ScriptWire;
 pub use writer::WriterSink;

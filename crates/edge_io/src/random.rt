@@ -81,22 +81,49 @@ mod tests {
     use super::*;
     use std::test::Fail;
 
+    /// Whether the words are drawn one after the other.
+    fn draws<E: Entropy>(words: &mut E, wanted: &[Drawn]) -> bool {
+        for place in 0..wanted.len() {
+            if words.word() != wanted[place] {
+                return false;
+            }
+        }
+        true
+    }
+
+    /// The last draw is of one byte.
+    const DRAWN: &[Drawn] = &[
+        Drawn::Word(0x0403_0201),
+        Drawn::Word(0),
+        Drawn::Word(0x8000_00FF),
+        Drawn::Failed,
+    ];
+
     #[test]
-    fn words_of_four_bytes(rt: HostRuntime) -> Result<(), Fail> {
+    fn words_of_four_bytes(rt: HostRuntime) {
         let mut entropy = RandomFile::new([1, 2, 3, 4, 0, 0, 0, 0, 0xFF, 0, 0, 0x80, 9].as_slice());
-        assert_eq!(rt; entropy.word(), Drawn::Word(0x0403_0201));
-        assert_eq!(rt; entropy.word(), Drawn::Word(0));
-        assert_eq!(rt; entropy.word(), Drawn::Word(0x8000_00FF));
-        assert_eq!(rt; entropy.word(), Drawn::Failed);
-        assert_eq!(rt; entropy.faults, 1);
-        // Three random words are the same once in 2^64 runs.
+        let is_drawn = draws(&mut entropy, DRAWN);
+        assert_eq!(rt; (is_drawn, entropy.faults), (true, 1));
+        let mut none = RandomFile::<&[u8]>::without_file();
+        let is_drawn = draws(&mut none, &[Drawn::Failed]);
+        assert_eq!(rt; (is_drawn, none.faults), (true, 1));
+    }
+
+    /// Whether these are words that aren't all the same. Three random words are once in 2^64 runs.
+    fn are_random(drawn: [Drawn; 3]) -> bool {
+        match drawn {
+            [Drawn::Word(first), Drawn::Word(second), Drawn::Word(third)] => {
+                first != second || second != third
+            }
+            _ => false,
+        }
+    }
+
+    #[test]
+    fn words_of_the_machine(rt: HostRuntime) -> Result<(), Fail> {
         let mut machine = random_file(&rt)?;
         let drawn = [machine.word(), machine.word(), machine.word()];
-        assert!(rt; drawn.iter().all(|word| matches!(word, Drawn::Word(_))));
-        assert!(rt; drawn[0] != drawn[1] || drawn[1] != drawn[2]);
-        let mut none = RandomFile::<&[u8]>::without_file();
-        assert_eq!(rt; none.word(), Drawn::Failed);
-        assert_eq!(rt; none.faults, 1);
+        assert!(rt; are_random(drawn));
         Ok(())
     }
 }

@@ -71,7 +71,7 @@ pub fn file_source<R: Files>(files: &R, path: &str) -> io::Result<ReaderSource<R
 }
 
 /// Reads, and again as long as a signal cuts the read short. It gives up after 2^64 - 1 of them.
-fn read_again<R: Read>(reader: &mut R, buf: &mut [u8]) -> io::Result<usize>
+pub(crate) fn read_again<R: Read>(reader: &mut R, buf: &mut [u8]) -> io::Result<usize>
     ensures within { IfOk result (λ count. count ≤ length buf.new) }
     ensures content { ReadConsumes (R.remaining reader.old) (R.remaining reader.new)
         result buf.new }
@@ -91,16 +91,25 @@ mod tests {
     use super::*;
     use std::test::Fail;
 
+    /// Whether the next read gives these bytes.
+    fn gives<S: Source>(source: &mut S, want: &[u8]) -> bool {
+        let mut buf = [0; 9];
+        match source.read(&mut buf) {
+            Take::Bytes(count) => buf.get(..count) == Some(want),
+            _ => false,
+        }
+    }
+
     #[test]
     fn files_as_sources(rt: HostRuntime) -> Result<(), Fail> {
-        let mut buf = [0; 9];
         let mut system = file_source(&rt, "/proc/sys/kernel/ostype")?;
-        assert_eq!(rt; system.read(&mut buf), Take::Bytes(6));
-        assert_eq!(rt; &buf[..6], b"Linux\n".as_slice());
-        assert_eq!(rt; system.read(&mut buf), Take::End);
+        let is_system = gives(&mut system, b"Linux\n");
+        let end = system.read(&mut [0; 9]);
         let mut folder = file_source(&rt, "/")?;
-        assert_eq!(rt; folder.read(&mut buf), Take::Failed);
-        assert!(rt; file_source(&rt, "/proc/no/such/file").is_err());
+        let failed = folder.read(&mut [0; 9]);
+        let is_missing = file_source(&rt, "/proc/no/such/file").is_err();
+        assert_eq!(rt; (is_system, is_missing), (true, true));
+        assert_eq!(rt; [end, failed], [Take::End, Take::Failed]);
         Ok(())
     }
 }

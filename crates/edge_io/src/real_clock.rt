@@ -184,64 +184,91 @@ mod tests {
     /// 1 January 1970 in ticks.
     const EPOCH: i64 = 116_444_736_000_000_000;
 
+    /// A call of a clock, and what a reading is to give.
+    #[derive(Clone, Copy)]
+    enum Call {
+        Read(Reading),
+        Step(i64),
+        Slew(i64),
+    }
+
+    /// Whether the clock does as wanted when the machine's clock reads so many microseconds.
+    fn does(clock: &mut RealClock<Machine>, micros: u64, call: Call) -> bool {
+        clock.rt.since_1970 = Some(Duration::from_micros(micros));
+        match call {
+            Call::Read(reading) => return clock.now() == reading,
+            Call::Step(amount) => clock.step(amount),
+            Call::Slew(amount) => clock.slew(amount),
+        }
+        true
+    }
+
+    /// The place of the first call that isn't as wanted.
+    fn first_wrong_call(clock: &mut RealClock<Machine>, calls: &[(u64, Call)]) -> Option<usize> {
+        for place in 0..calls.len() {
+            let (micros, call) = calls[place];
+            if !does(clock, micros, call) {
+                return Some(place);
+            }
+        }
+        None
+    }
+
+    // A slew begins when it is asked for, and not when the clock was read before. So does one to the other side, of which
+    // one tick is worked off here. A further slew takes the place of the last tick, and a step that of the last three.
+    const MOVES: &[(u64, Call)] = &[
+        (0, Call::Read(Reading::At(EPOCH))),
+        (0, Call::Step(-7)),
+        (0, Call::Read(Reading::At(EPOCH - 7))),
+        (1_000, Call::Slew(3)),
+        (1_000, Call::Read(Reading::At(EPOCH + 9_993))),
+        (1_199, Call::Read(Reading::At(EPOCH + 11_983))),
+        (1_200, Call::Read(Reading::At(EPOCH + 11_994))),
+        (2_000, Call::Read(Reading::At(EPOCH + 19_996))),
+        (1_400, Call::Read(Reading::At(EPOCH + 13_996))),
+        (2_400, Call::Slew(-2)),
+        (2_600, Call::Read(Reading::At(EPOCH + 25_995))),
+        (2_600, Call::Slew(-5)),
+        (3_000, Call::Step(10)),
+        (9_000, Call::Read(Reading::At(EPOCH + 90_003))),
+    ];
+
     #[test]
     fn moves_of_a_clock(rt: HostRuntime) {
         let since_1970 = Some(Duration::ZERO);
         let mut clock = RealClock::new(Machine { since_1970 });
-        assert_eq!(rt; clock.now(), Reading::At(EPOCH));
-        clock.step(-7);
-        assert_eq!(rt; clock.now(), Reading::At(EPOCH - 7));
-        // The slew begins when it is asked for, and not when the clock was read before.
-        clock.rt.since_1970 = Some(Duration::from_micros(1_000));
-        clock.slew(3);
-        // Microseconds that the machine's clock reads, and the reading.
-        for (micros, reading) in [
-            (1_000, 9_993),
-            (1_199, 11_983),
-            (1_200, 11_994),
-            (2_000, 19_996),
-            (1_400, 13_996),
-        ] {
-            clock.rt.since_1970 = Some(Duration::from_micros(micros));
-            assert_eq!(rt; clock.now(), Reading::At(EPOCH + reading), "at {micros}");
-        }
-        // So does a slew to the other side, of which one tick is worked off here.
-        clock.rt.since_1970 = Some(Duration::from_micros(2_400));
-        clock.slew(-2);
-        clock.rt.since_1970 = Some(Duration::from_micros(2_600));
-        assert_eq!(rt; clock.now(), Reading::At(EPOCH + 25_995));
-        // A further slew takes the place of the last tick, and a step that of the last three.
-        clock.slew(-5);
-        clock.rt.since_1970 = Some(Duration::from_micros(3_000));
-        clock.step(10);
-        clock.rt.since_1970 = Some(Duration::from_micros(9_000));
-        assert_eq!(rt; clock.now(), Reading::At(EPOCH + 90_003));
+        assert_eq!(rt; first_wrong_call(&mut clock, MOVES), None);
         clock.rt.since_1970 = None;
-        assert_eq!(rt; clock.now(), Reading::Failed);
-        assert_eq!(rt; clock.faults, 1);
+        assert_eq!(rt; (clock.now(), clock.faults), (Reading::Failed, 1));
     }
+
+    const ENDS: &[(u64, Call)] = &[
+        (0, Call::Step(-EPOCH)),
+        (0, Call::Read(Reading::At(0))),
+        (0, Call::Step(-1)),
+        (0, Call::Read(Reading::Failed)),
+        (0, Call::Step(4_000_000_000_000_000_001)),
+        (0, Call::Read(Reading::At(4_000_000_000_000_000_000))),
+        (0, Call::Step(1)),
+        (0, Call::Read(Reading::Failed)),
+        (0, Call::Step(i64::MAX)),
+        (0, Call::Step(i64::MAX)),
+        (0, Call::Step(i64::MAX)),
+        (0, Call::Step(i64::MAX)),
+        (0, Call::Step(-i64::MAX)),
+        (0, Call::Step(-i64::MAX)),
+        (0, Call::Step(-i64::MAX)),
+        (0, Call::Step(-i64::MAX)),
+        (0, Call::Step(-1)),
+        (0, Call::Read(Reading::At(4_000_000_000_000_000_000))),
+    ];
 
     #[test]
     fn readings_at_their_ends(rt: HostRuntime) {
         let since_1970 = Some(Duration::ZERO);
         let mut clock = RealClock::new(Machine { since_1970 });
-        clock.step(-EPOCH);
-        assert_eq!(rt; clock.now(), Reading::At(0));
-        clock.step(-1);
-        assert_eq!(rt; clock.now(), Reading::Failed);
-        clock.step(4_000_000_000_000_000_001);
-        assert_eq!(rt; clock.now(), Reading::At(4_000_000_000_000_000_000));
-        clock.step(1);
-        assert_eq!(rt; clock.now(), Reading::Failed);
-        for _ in 0..4 {
-            clock.step(i64::MAX);
-        }
-        for _ in 0..4 {
-            clock.step(-i64::MAX);
-        }
-        clock.step(-1);
-        assert_eq!(rt; clock.now(), Reading::At(4_000_000_000_000_000_000));
-        assert_eq!(rt; clock.faults, 2);
+        let wrong = first_wrong_call(&mut clock, ENDS);
+        assert_eq!(rt; (wrong, clock.faults), (None, 2));
     }
 
     #[test]

@@ -165,9 +165,10 @@ fn put_sample<W: Write>(writer: &mut W, since_1970: Duration, offset: i64) -> bo
 #[cfg(test)]
 mod tests {
     use super::*;
+    use std::alloc::AllocError;
     use std::fs;
     use std::io::Read;
-    use std::os::fd::AsRawFd;
+    use std::os::fd::{AsRawFd, RawFd};
     use std::test::Fail;
 
     const FOLDER: &str = "edge_io_samples";
@@ -193,64 +194,100 @@ mod tests {
         assert!(rt; !takes(&mut []));
     }
 
+    /// Whether the file holds so many bytes.
+    fn has_len(rt: &HostRuntime, len: usize) -> bool {
+        fs::read(rt, PATH).is_ok_and(|bytes| bytes.len() == len)
+    }
+
+    /// Whether two corrections are made, and the file isn't touched before them.
+    fn makes_two_corrections(rt: &HostRuntime, path: String) -> bool {
+        let mut clock = SampleClock::new(rt, path);
+        let is_fresh = is_read(&mut clock) && has_len(rt, 6);
+        clock.step(-2_990_000_000);
+        clock.slew(100_000);
+        is_fresh && is_read(&mut clock) && clock.faults == 0
+    }
+
+    /// Whether a sample has this double, and the magic behind it.
+    fn is_sample(sample: &[u8], double: &[u8]) -> bool {
+        sample.len() == 40
+            && &sample[16..24] == double
+            && &sample[24..] == b"\0\0\0\0\0\0\0\0\0\0\0\0KCOS".as_slice()
+    }
+
+    /// Whether there are six bytes, and the samples of -299 and 0.01 seconds.
+    fn are_two_samples(bytes: &[u8]) -> bool {
+        bytes.len() == 86
+            && is_sample(&bytes[6..46], &[0, 0, 0, 0, 0, 0xB0, 0x72, 0xC0])
+            && is_sample(
+                &bytes[46..],
+                &[0x7B, 0x14, 0xAE, 0x47, 0xE1, 0x7A, 0x84, 0x3F],
+            )
+    }
+
     #[test]
     fn samples_at_the_end_of_a_file(rt: HostRuntime) -> Result<(), Fail> {
         let _ = fs::remove_dir_all(&rt, FOLDER);
         fs::create_dir(&rt, FOLDER)?;
         fs::write(&rt, PATH, "before")?;
-        let mut clock = SampleClock::new(&rt, String::from_str(rt.alloc(), PATH)?);
-        assert!(rt; is_read(&mut clock));
-        assert_eq!(rt; fs::read(&rt, PATH)?.len(), 6);
-        clock.step(-2_990_000_000);
-        clock.slew(100_000);
-        assert!(rt; is_read(&mut clock));
+        let path = String::from_str(rt.alloc(), PATH)?;
+        assert!(rt; makes_two_corrections(&rt, path));
         let bytes = fs::read(&rt, PATH)?;
-        assert_eq!(rt; (bytes.len(), clock.faults), (86, 0));
-        // The doubles of -299 and 0.01 seconds, and the magic behind each.
-        let doubles = [
-            [0, 0, 0, 0, 0, 0xB0, 0x72, 0xC0],
-            [0x7B, 0x14, 0xAE, 0x47, 0xE1, 0x7A, 0x84, 0x3F],
-        ];
-        for (sample, double) in bytes[6..].chunks(40).zip(doubles) {
-            assert_eq!(rt; &sample[16..24], double.as_slice());
-            assert_eq!(rt; &sample[24..], b"\0\0\0\0\0\0\0\0\0\0\0\0KCOS".as_slice());
-        }
+        assert!(rt; are_two_samples(bytes.as_slice()));
         fs::remove_dir_all(&rt, FOLDER)?;
         Ok(())
+    }
+
+    /// Whether a correction is made, and the reading after it is there.
+    fn is_corrected<R: rt::Clock + Files + Drop>(clock: &mut SampleClock<R>) -> bool {
+        clock.slew(1);
+        is_read(clock)
+    }
+
+    /// Whether the first correction stops the readings for good.
+    fn stops(rt: &HostRuntime, path: String) -> bool {
+        let mut clock = SampleClock::new(rt, path);
+        is_read(&mut clock)
+            && !is_corrected(&mut clock)
+            && !is_corrected(&mut clock)
+            && clock.faults == 2
     }
 
     #[test]
     fn samples_that_cant_be_written(rt: HostRuntime) -> Result<(), Fail> {
         // A path that is missing, a folder, and a device that is full.
         for path in ["/proc/no/such", "/proc", "/dev/full"] {
-            let mut clock = SampleClock::new(&rt, String::from_str(rt.alloc(), path)?);
-            assert!(rt; is_read(&mut clock), "{path}");
-            clock.slew(1);
-            assert!(rt; !is_read(&mut clock), "{path}");
-            clock.step(1);
-            assert!(rt; !is_read(&mut clock), "{path}");
-            assert_eq!(rt; clock.faults, 2, "{path}");
+            let path = String::from_str(rt.alloc(), path)?;
+            assert!(rt; stops(&rt, path));
         }
         Ok(())
+    }
+
+    /// A clock whose samples go to this descriptor.
+    fn clock_to<'a>(
+        rt: &'a HostRuntime,
+        fd: RawFd,
+    ) -> Result<SampleClock<&'a HostRuntime>, AllocError> {
+        let path = format!(in rt.alloc(); "/proc/self/fd/{fd}")?;
+        Ok(SampleClock::new(rt, path))
+    }
+
+    /// Whether the next read gives one sample.
+    fn gives_a_sample<R: Read>(reader: &mut R) -> bool {
+        matches!(reader.read(&mut [0; 80]), Ok(40))
     }
 
     #[test]
     fn samples_to_a_pipe(rt: HostRuntime) -> Result<(), Fail> {
         let (mut reader, writer) = io::pipe(&rt)?;
-        let path = format!(in rt.alloc(); "/proc/self/fd/{}", writer.as_raw_fd())?;
-        let mut clock = SampleClock::new(&rt, path);
-        let path = format!(in rt.alloc(); "/proc/self/fd/{}", writer.as_raw_fd())?;
-        let mut late = SampleClock::new(&rt, path);
-        clock.slew(1);
-        let mut bytes = [0; 80];
-        assert_eq!(rt; reader.read(&mut bytes)?, 40);
-        assert!(rt; is_read(&mut clock));
+        let mut clock = clock_to(&rt, writer.as_raw_fd())?;
+        let mut late = clock_to(&rt, writer.as_raw_fd())?;
+        let is_written = is_corrected(&mut clock) && gives_a_sample(&mut reader);
         // One whose reader goes, and one that never had a reader.
         drop(reader);
-        clock.slew(1);
-        late.slew(1);
-        assert!(rt; !is_read(&mut clock) && !is_read(&mut late));
+        let are_stopped = !is_corrected(&mut clock) && !is_corrected(&mut late);
         drop(writer);
+        assert_eq!(rt; (is_written, are_stopped), (true, true));
         Ok(())
     }
 }

@@ -142,7 +142,7 @@ fn receipt_without(error: &io::Error) -> Receipt
 }
 
 /// The address as the socket has it.
-fn socket_addr_of(to: Addr) -> SocketAddrV4
+pub(crate) fn socket_addr_of(to: Addr) -> SocketAddrV4
     ensures port { v4_port result ≡ to.port }
     ensures ip { IsIpv4OfBits (v4_ip result) to.ip }
 {
@@ -204,36 +204,62 @@ mod tests {
     /// 127.0.0.1.
     const LOCALHOST: u32 = 0x7F00_0001;
 
+    /// Whether pieces of four lengths are sent to this address.
+    fn sends_pieces<L: Link>(link: &mut L, to: Addr) -> bool {
+        link.send(to, b"") == Put::Done
+            && link.send(to, b"abc") == Put::Done
+            && link.send(to, &[7; 256]) == Put::Done
+            && link.send(to, &[7; 300]) == Put::Done
+    }
+
+    /// Whether the socket of a link sends 300 bytes, which the link does not, and waits for a second.
+    fn sends_more_and_waits_a_second(link: &UdpLink, to: SocketAddrV4) -> bool {
+        match &link.socket {
+            Some(socket) => {
+                socket
+                    .send_to(&[7; 300], to)
+                    .is_ok_and(|count| count == 300)
+                    && socket
+                        .read_timeout()
+                        .is_ok_and(|time| time == Some(Duration::from_secs(1)))
+            }
+            None => false,
+        }
+    }
+
+    /// The place of the first receipt that isn't of so many bytes from this address.
+    fn first_wrong_receipt<L: Link>(link: &mut L, from: Addr, lens: &[usize]) -> Option<usize> {
+        for place in 0..lens.len() {
+            let is_right = match link.recv() {
+                Receipt::Got(sender, bytes) => {
+                    sender == from && bytes.as_slice().len() == lens[place]
+                }
+                _ => false,
+            };
+            if !is_right {
+                return Some(place);
+            }
+        }
+        None
+    }
+
     #[test]
     fn datagrams_on_loopback(rt: HostRuntime) -> Result<(), Fail> {
         let mut near = UdpLink::bind(&rt, 0)?;
         let mut far = UdpLink::bind(&rt, 0)?;
-        assert!(rt;
-            UdpLink::bind(&rt, far.port()?).is_err(),
-            "the port is taken"
-        );
-        let ip = LOCALHOST;
         let (from, to) = (near.port()?, far.port()?);
-        for sent in [b"".as_slice(), b"abc", &[7; 256], &[7; 300]] {
-            assert_eq!(rt; near.send(Addr { ip, port: to }, sent), Put::Done);
-        }
-        // A link sends 256 bytes at most, and its socket any number.
+        let is_taken = UdpLink::bind(&rt, to).is_err();
+        let ip = LOCALHOST;
+        let are_sent = sends_pieces(&mut near, Addr { ip, port: to });
         let addr = SocketAddrV4::new(Ipv4Addr::LOCALHOST, to);
-        if let Some(socket) = &near.socket {
-            assert_eq!(rt; socket.send_to(&[7; 300], addr)?, 300);
-            assert_eq!(rt; socket.read_timeout()?, Some(Duration::from_secs(1)));
-        }
-        for len in [0, 3, 256, 256, 256] {
-            let Receipt::Got(sender, bytes) = far.recv() else {
-                assert!(rt; false, "nothing came");
-                return Ok(());
-            };
-            assert_eq!(rt; sender, Addr { ip, port: from });
-            assert_eq!(rt; bytes.as_slice().len(), len);
-        }
-        assert!(rt; matches!(far.recv(), Receipt::Quiet));
-        assert_eq!(rt; near.send(Addr { ip, port: 0 }, b"x"), Put::Failed);
-        assert_eq!(rt; (near.faults, far.faults), (1, 0));
+        let is_longer = sends_more_and_waits_a_second(&near, addr);
+        assert_eq!(rt; (is_taken, are_sent, is_longer), (true, true, true));
+        let lens = [0, 3, 256, 256, 256];
+        let wrong = first_wrong_receipt(&mut far, Addr { ip, port: from }, &lens);
+        let is_quiet = matches!(far.recv(), Receipt::Quiet);
+        assert_eq!(rt; (wrong, is_quiet), (None, true));
+        let refused = near.send(Addr { ip, port: 0 }, b"x");
+        assert_eq!(rt; (refused, near.faults, far.faults), (Put::Failed, 1, 0));
         Ok(())
     }
 

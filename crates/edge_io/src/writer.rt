@@ -62,7 +62,7 @@ impl<W: Write> Sink for WriterSink<W> {
 }
 
 /// Writes all of the bytes, and says whether it could.
-fn write_whole<W: Write>(writer: &mut W, piece: &[u8]) -> bool
+pub(crate) fn write_whole<W: Write>(writer: &mut W, piece: &[u8]) -> bool
     ensures whole { IsTrue result
         → Appends (W.contents writer.old) (W.contents writer.new) piece.now }
     ensures front { (count : ℕ) × (count ≤ length piece.now)
