@@ -5,16 +5,20 @@ use std::test::Fail;
 use test_scripts::{Device, Ordered, Script, call_at, run_in_order};
 use w32tm_cmd::Status;
 
-/// A run: its words, its input and what its devices do.
+/// A run: its words, its input and what its devices do; and how it ends where no call fails but sends and receives.
 #[derive(Clone, Copy)]
 pub(crate) struct Run<'a> {
     pub words: &'a [&'a str],
     pub input: &'a [u8],
     pub script: Script<'a>,
+    pub status: Status,
 }
 
 /// Letters, and how often they come, one after the other.
 pub(crate) type Part<'a> = (usize, &'a str);
+
+/// A run, and the word of its calls.
+pub(crate) type Row = (Run<'static>, &'static [Part<'static>]);
 
 /// The whole word.
 pub(crate) fn word_of(alloc: Global, parts: &[Part]) -> Result<Vec<u8>, AllocError> {
@@ -31,7 +35,7 @@ fn ordered(alloc: Global, run: &Run) -> Result<Ordered, Fail> {
     run_in_order(alloc, run.words, run.input, &run.script)
 }
 
-/// The run is done, and makes these calls in this order.
+/// The run ends as it is to, and makes these calls in this order.
 pub(crate) fn expect_order(
     rt: &impl Abort,
     alloc: Global,
@@ -39,16 +43,16 @@ pub(crate) fn expect_order(
     word: &[u8],
 ) -> Result<(), Fail> {
     let ran = ordered(alloc, run)?;
-    assert_eq!(rt; (ran.status, ran.letters.as_slice()), (Status::Done, word));
+    assert_eq!(rt; (ran.status, ran.letters.as_slice()), (run.status, word));
     Ok(())
 }
 
-/// How a run ends of whose devices this one fails.
-fn status_of(device: Device) -> Status {
+/// How a run ends of whose devices this one fails: a link ends none.
+fn status_of(device: Device, run: &Run) -> Status {
     match device {
         Device::Config | Device::Input => Status::ReadFault,
         Device::Out | Device::Capture => Status::WriteFault,
-        Device::Link => Status::Done,
+        Device::Link => run.status,
         Device::Clock => Status::ClockFault,
         Device::Disk => Status::DiskFault,
         Device::Entropy => Status::EntropyFault,
@@ -79,7 +83,11 @@ fn expect_fault(
     let is_last = ran.letters.len() == end;
     assert_eq!(rt;
         (ran.status, front, is_last),
-        (status_of(device), word.get(..end), device != Device::Link),
+        (
+            status_of(device, run),
+            word.get(..end),
+            device != Device::Link
+        ),
         "call {place}"
     );
     Ok(())
@@ -94,6 +102,24 @@ pub(crate) fn expect_faults(
 ) -> Result<(), Fail> {
     for place in 0..word.len() {
         expect_fault(rt, alloc, run, word, place)?;
+    }
+    Ok(())
+}
+
+/// Each of these runs makes the calls of its word.
+pub(crate) fn expect_orders(rt: &impl Abort, alloc: Global, rows: &[Row]) -> Result<(), Fail> {
+    for (run, parts) in rows {
+        let word = word_of(alloc, parts)?;
+        expect_order(rt, alloc, run, &word)?;
+    }
+    Ok(())
+}
+
+/// Each call of these runs fails in its turn, and is the last one, but for a send or a receive.
+pub(crate) fn expect_all_faults(rt: &impl Abort, alloc: Global, rows: &[Row]) -> Result<(), Fail> {
+    for (run, parts) in rows {
+        let word = word_of(alloc, parts)?;
+        expect_faults(rt, alloc, run, &word)?;
     }
     Ok(())
 }

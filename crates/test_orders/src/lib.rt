@@ -3,7 +3,8 @@
 //! The devices number their calls together, so that a run is one word, a letter a call. Each word was put together by hand
 //! from the rules of the command. `expected.rt` compares a run with its word; and makes each call of it fail in its turn:
 //! a failing call is the last one, but for a send or a receive. `member.rt` has a run of a member with a step, a slew, a
-//! refused reply, a change of partner and a second block of counts; `others.rt` the other commands.
+//! refused reply, a change of partner and a second block of counts; `others.rt` the other commands; `refused.rt` runs that end
+//! otherwise than as Done.
 //!
 //! It stands on `test_scripts` for the devices and the top call.
 #![tactic(auto)]
@@ -14,3 +15,5 @@ mod expected;
 mod member;
 #[cfg(test)]
 mod others;
+#[cfg(test)]
+mod refused;

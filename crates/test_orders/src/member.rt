@@ -4,6 +4,7 @@ use edge_io::Addr;
 use std::alloc::{AllocError, Global};
 use std::test::Fail;
 use test_scripts::{Came, Device, INTERVAL, NEW_YEAR, SETTINGS, STEADY, Script, THIRD};
+use w32tm_cmd::Status;
 
 /// How many turns the run takes: its 65th request is that of turn 67.
 const TURNS: u32 = 68;
@@ -92,6 +93,7 @@ fn run_of<'a>(readings: &'a [i64], random: &'a [u32]) -> Run<'a> {
             room: 4_000,
             ..STEADY
         },
+        status: Status::Done,
     }
 }
 

@@ -1,8 +1,9 @@
 //! The order of calls of the other commands.
-use crate::expected::{Part, Run, expect_faults, expect_order, word_of};
+use crate::expected::{Row, Run, expect_all_faults, expect_orders};
 use edge_io::Addr;
 use std::test::Fail;
 use test_scripts::{Came, LATER, NEW_YEAR, REQUEST, SETTINGS, STEADY, Script};
+use w32tm_cmd::Status;
 
 const CLIENT: Addr = Addr {
     ip: 0x0A00_0032,
@@ -12,16 +13,14 @@ const CLIENT: Addr = Addr {
 const CONTROLLER: &[u8] = b"Name=DC1\nRole=Controller\nRid=1103\n\
     account 1103 000102030405060708090a0b0c0d0e0f\n";
 
-/// A member's Life and its first Tick, which sends.
+/// A member's Life, its first Tick, which sends, and an arrival of two bytes.
 const CAPTURE: &[u8] = b"\x01W32T\x01\xD5\xC0\x36\x69\x05\x00\x00\x00\x00\x00\x00\
-\x02\x01\xD5\xC0\x36\x69\x05\x00\x00\x00\x00\x00\x07";
+\x02\x01\xD5\xC0\x36\x69\x05\x00\x00\x00\x00\x00\x07\
+\x04\x01\xD5\xC0\x36\x69\x05\x00\x00\x0A\x00\x00\x02\x00\x7B\x00\x02\xFF\xFF";
 
 const READINGS: [i64; 8] = [
     NEW_YEAR, LATER, NEW_YEAR, LATER, NEW_YEAR, LATER, NEW_YEAR, LATER,
 ];
-
-/// A run, and the word of its calls.
-type Row = (Run<'static>, &'static [Part<'static>]);
 
 // - A controller reads its settings to their end. A datagram is followed by two readings, and by the reply, unless it is
 //   refused; behind the last turn come three lines.
@@ -46,6 +45,7 @@ const ROWS: &[Row] = &[
                 readings: &READINGS,
                 ..STEADY
             },
+            status: Status::Done,
         },
         &[
             (1, "gg"),
@@ -68,6 +68,7 @@ const ROWS: &[Row] = &[
                 random: &[1, 2, 3, 4, 5, 6],
                 ..STEADY
             },
+            status: Status::Done,
         },
         &[
             (1, "gg"),
@@ -86,12 +87,15 @@ const ROWS: &[Row] = &[
                 pieces: &[500],
                 ..STEADY
             },
+            status: Status::Done,
         },
         &[
             (1, "gg"),
             (17, "i"),
             (1, "o"),
             (13, "i"),
+            (1, "o"),
+            (19, "i"),
             (1, "o"),
             (1, "i"),
             (1, "o"),
@@ -105,6 +109,7 @@ const ROWS: &[Row] = &[
                 pieces: &[500],
                 ..STEADY
             },
+            status: Status::Done,
         },
         &[(1, "iitto")],
     ),
@@ -116,6 +121,7 @@ const ROWS: &[Row] = &[
             ],
             input: b"",
             script: STEADY,
+            status: Status::Done,
         },
         &[(1, "ooooo")],
     ),
@@ -123,18 +129,10 @@ const ROWS: &[Row] = &[
 
 #[test]
 fn orders_of_calls(rt: HostRuntime) -> Result<(), Fail> {
-    for (run, parts) in ROWS {
-        let word = word_of(rt.alloc(), parts)?;
-        expect_order(&rt, rt.alloc(), run, &word)?;
-    }
-    Ok(())
+    expect_orders(&rt, rt.alloc(), ROWS)
 }
 
 #[test]
 fn each_call_fails_last(rt: HostRuntime) -> Result<(), Fail> {
-    for (run, parts) in ROWS {
-        let word = word_of(rt.alloc(), parts)?;
-        expect_faults(&rt, rt.alloc(), run, &word)?;
-    }
-    Ok(())
+    expect_all_faults(&rt, rt.alloc(), ROWS)
 }
