@@ -29,7 +29,7 @@ const STRANGER: Addr = Addr {
 // The reply to the request with the count 1 and the word 1, which was sent at `R0`: received 3 seconds later by the
 // server's clock and sent a millisecond after that. With the header in the file `header` and the key 00 01 .. 0F the
 // checksum is (echo KEY | xxd -r -p; cat header) | openssl md5
-const REPLY: [u8; 68] = *b"\x1C\x01\x0A\xE9\0\0\0\0\0\0\0\0LOCL\xE1\xB6\x5F\x83\0\0\0\0\
+pub(crate) const REPLY: [u8; 68] = *b"\x1C\x01\x0A\xE9\0\0\0\0\0\0\0\0LOCL\xE1\xB6\x5F\x83\0\0\0\0\
 \0\0\0\x01\0\0\0\x01\xE1\xB6\x5F\x83\0\0\0\0\xE1\xB6\x5F\x83\0\x41\x89\x38\x4F\x04\0\0\
 \x03\xE3\xE7\x6B\x68\xEB\xCD\x6E\xA7\xEF\x5F\x1F\xCA\x67\x72\xB2";
 
@@ -240,7 +240,7 @@ fn run(alloc: Global, devices: &mut Devices) -> Result<LifeEnd, Fail> {
     Ok(end)
 }
 
-fn add_times(text: &mut Vec<u8>, times: u32, line: &str) -> Result<(), AllocError> {
+pub(crate) fn add_times(text: &mut Vec<u8>, times: u32, line: &str) -> Result<(), AllocError> {
     for _ in 0..times {
         text.extend_from_slice(line.as_bytes())?;
     }

@@ -13,3 +13,5 @@
 mod hostile;
 #[cfg(test)]
 mod lives;
+#[cfg(test)]
+mod rounds;

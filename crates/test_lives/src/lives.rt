@@ -25,7 +25,7 @@ const TURN: i64 = 10_240_000_000;
 const TURNS: u32 = 20;
 
 /// The address of the first partner in rank.
-const FIRST: Addr = Addr {
+pub(crate) const FIRST: Addr = Addr {
     ip: 0x0A00_0002,
     port: 123,
 };
@@ -376,7 +376,7 @@ fn bad_words_and_first_faults(rt: HostRuntime) -> Result<(), Fail> {
 
 /// An object of a run.
 #[derive(Clone, Copy)]
-enum Object {
+pub(crate) enum Object {
     Link,
     Clock,
     Disk,
@@ -385,7 +385,7 @@ enum Object {
     Capture,
 }
 
-fn failure_of(object: Object, call: u64) -> Failing {
+pub(crate) fn failure_of(object: Object, call: u64) -> Failing {
     let mut fails = Failing::default();
     match object {
         Object::Link => fails.link = call,
@@ -481,7 +481,7 @@ fn answered<T: Drop>(answer: Result<T, Why>) -> Result<T, Fail>
 }
 
 /// The start of a run.
-fn start(alloc: Global, objects: &mut Objects) -> Result<Running, Fail>
+pub(crate) fn start(alloc: Global, objects: &mut Objects) -> Result<Running, Fail>
     ensures { IfOk result (λ run. IsGoing (memory_tells objects.new.disk) run) }
 {
     let conf = conf_of(alloc)?;
@@ -495,7 +495,7 @@ fn start(alloc: Global, objects: &mut Objects) -> Result<Running, Fail>
 }
 
 /// A call that asks for the result of its round.
-fn resync(run: &mut Running, wait: u32, objects: &mut Objects) -> Result<u32, Fail>
+pub(crate) fn resync(run: &mut Running, wait: u32, objects: &mut Objects) -> Result<u32, Fail>
     requires { IsGoing (memory_tells objects.old.disk) run.old }
     ensures { OnOk result (IsGoing (memory_tells objects.new.disk) run.new) }
 {
