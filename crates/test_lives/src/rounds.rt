@@ -5,10 +5,9 @@ ghost use Rattle.edge_io.specs.LinkScript.{IsNoFailure};
 ghost use Rattle.slot_disk.specs.Memory.{memory_tells};
 ghost use Rattle.member_run.specs.Running.{IsGoing};
 
+use crate::calls::{resync, start};
 use crate::hostile::{REPLY, add_times as add_lines};
-use crate::lives::{
-    FIRST, Object, Objects, R0, failure_of, objects_of, readings_among, resync, start,
-};
+use crate::lives::{FIRST, Object, Objects, R0, failure_of, objects_of, readings_among};
 use edge_io::{Datagram, Move, Receipt, ScriptLink};
 use member_run::{LifeEnd, Running, Why};
 use std::alloc::{AllocError, Global};
