@@ -4,7 +4,7 @@
 # Usage: examples/bad_input.sh
 . "$(dirname "$0")/prologue.sh"
 find_program
-failed=0 cases=0
+cases=0
 
 # A case: the code, the line on standard error, the last line on standard output, and the words.
 says() {

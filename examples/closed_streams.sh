@@ -5,7 +5,7 @@
 # Usage: examples/closed_streams.sh
 . "$(dirname "$0")/prologue.sh"
 find_program
-failed=0 cases=0
+cases=0
 
 free_port
 "$program" /dc:300 /config:examples/local/dc.conf "/port:$port" >/dev/null &

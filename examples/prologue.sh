@@ -22,6 +22,27 @@ at_end() { :; }
 trap 'jobs -pr | xargs -r kill 2>/dev/null; at_end; rm -rf "$folder"' EXIT
 trap 'exit 130' INT TERM
 
+# What went wrong is said, and told by the exit code at the end.
+failed=0
+fail() {
+    say "$*"
+    failed=1
+}
+
+# Ends processes that the script began.
+stop() { kill "$@" 2>/dev/null; wait "$@" 2>/dev/null; }
+
+# Tries a command each quarter of a second, for so many seconds. What it prints is dropped.
+wait_until() {
+    local quarters=$(($1 * 4))
+    shift
+    for _ in $(seq $quarters); do
+        "$@" >/dev/null 2>&1 && return 0
+        sleep 0.25
+    done
+    return 1
+}
+
 # The crates on which the program stands, itself too.
 crates_below() {
     awk -F ': *' '!/^#/ { below[$1] = $2 }

@@ -11,9 +11,9 @@ import socket
 import struct
 import sys
 
-HEADER, SHORT = 48, 68
+from signd import HEADER, SIGN_SUCCESS, SIGN_TO_CLIENT, receive, send
+
 WAIT_SECONDS = 2
-SIGN_TO_CLIENT, SIGN_SUCCESS = 0, 3
 
 
 def request_of(rid):
@@ -32,26 +32,14 @@ def reply_of(port, request):
         return None
 
 
-def take(stream, count):
-    """So many bytes, or None where the other side closes before."""
-    taken = b""
-    while len(taken) < count:
-        piece = stream.recv(count - len(taken))
-        if not piece:
-            return None
-        taken += piece
-    return taken
-
-
 def signed_of(path, header, key_identifier):
     """What ntp_signd makes of a header, or None where it signs nothing: it says so, or closes (a disabled account)."""
     stream = socket.socket(socket.AF_UNIX)
     stream.settimeout(WAIT_SECONDS)
     stream.connect(path)
     call = struct.pack(">IIHH", 0, SIGN_TO_CLIENT, 1, 0) + key_identifier + header
-    stream.sendall(struct.pack(">I", len(call)) + call)
-    length = take(stream, 4)
-    answer = length and take(stream, *struct.unpack(">I", length))
+    send(stream, call)
+    answer = receive(stream)
     return answer[12:] if answer and struct.unpack(">I", answer[4:8])[0] == SIGN_SUCCESS else None
 
 

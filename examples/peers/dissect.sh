@@ -7,7 +7,6 @@
 word=/sign:1103:00000000000000000000000000000000
 for tool in tshark text2pcap; do command -v $tool >/dev/null || skip "no $tool"; done
 find_program
-failed=0
 
 # The number of hexadecimal digits that stand for a signed number.
 signed() {

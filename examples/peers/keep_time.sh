@@ -16,11 +16,6 @@ for tool in python3 chronyd; do command -v $tool >/dev/null || skip "no $tool"; 
 find_program
 in_own_network "$@"
 chmod 755 "$folder"
-failed=0
-fail() {
-    say "$*"
-    failed=1
-}
 
 rid=1103
 key=000102030405060708090a0b0c0d0e0f
@@ -38,7 +33,6 @@ start_chronyd() {
     chronyd=$!
     wait_for_port "$server" || fail "chronyd: $(tail -n 1 "$folder/chronyd")"
 }
-stop() { kill "$@" && wait "$@" 2>/dev/null; }
 
 # A run of the member against a port: its report is in $folder/report.
 run_member() {
@@ -89,7 +83,7 @@ echo "== chronyd with a signing service"
 mkdir "$folder/signd"
 python3 $peers/signer.py sign "$folder/signd" $rid $key &
 signer=$!
-for _ in $(seq 200); do [ -e "$folder/signd/socket" ] && break; sleep 0.05; done
+wait_until 10 test -e "$folder/signd/socket"
 start_chronyd $key "ntpsigndsocket $folder/signd"
 run_member "$server" && all_accepted
 stop $signer $chronyd
@@ -100,7 +94,7 @@ echo "== chronyd with a signing service that has another key"
 rm -r "$folder/signd" && mkdir "$folder/signd"
 python3 $peers/signer.py sign "$folder/signd" $rid "ff${key:2}" &
 signer=$!
-for _ in $(seq 200); do [ -e "$folder/signd/socket" ] && break; sleep 0.05; done
+wait_until 10 test -e "$folder/signd/socket"
 start_chronyd $key "ntpsigndsocket $folder/signd"
 run_member "$server"
 if ! grep -q '^refused reason=BadDigest$' "$folder/report" || grep -q '^moved ' "$folder/report"; then

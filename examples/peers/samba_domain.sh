@@ -30,11 +30,6 @@ fi
 # What has keys gets a mode of its own. Samba serves pipes as another user, who has to come through to them.
 umask 022
 unset KRB5CCNAME KRB5_KTNAME
-failed=0
-fail() {
-    say "$*"
-    failed=1
-}
 # Shows a command, and carries it out. Its output is kept in $folder/said.
 run() {
     local shown="$*" code
@@ -44,13 +39,6 @@ run() {
     code=$?
     sed "s|$folder/||g" "$folder/said"
     return $code
-}
-wait_until() {
-    for _ in $(seq 240); do
-        "$@" >/dev/null 2>&1 && return 0
-        sleep 0.25
-    done
-    return 1
 }
 
 # A machine of its own: an address for the controller, one for the member, and the files that name them.
@@ -105,7 +93,7 @@ start_samba() {
         [ -S "$signd" ] && [ -n "$(dig +short +tries=1 +time=1 SRV _ldap._tcp.dc._msdcs.example.test)" ] &&
             smbclient -N -L 192.0.2.1 -s "$folder/none.conf"
     }
-    wait_until is_up || die "samba doesn't answer: $(tail -n 2 "$folder/samba.log")"
+    wait_until 60 is_up || die "samba doesn't answer: $(tail -n 2 "$folder/samba.log")"
 }
 
 # The member: its own folder of Samba's, and a keytab.
@@ -243,12 +231,12 @@ tell_chronyd() {
     chronyd -U -u "$(id -un)" -x -d "pidfile $folder/chronyd.pid" "port 0" "bindcmdaddress /" "cmdport 323" \
         "refclock SOCK $folder/sock refid AD poll 0 filter 1 precision 1e-4 delay 1e-3" >"$folder/chronyd" 2>&1 &
     chronyd=$!
-    wait_until test -S "$folder/sock" || fail "chronyd: $(tail -n 1 "$folder/chronyd")"
+    wait_until 60 test -S "$folder/sock" || fail "chronyd: $(tail -n 1 "$folder/chronyd")"
     mkfifo "$folder/fifo"
     socat -u -b40 "PIPE:$folder/fifo,rdwr" "UNIX-SENDTO:$folder/sock" &
     socat=$!
     is_reading() { find "/proc/$socat/fd" -lname "$folder/fifo" | grep -q .; }
-    wait_until is_reading || fail "socat doesn't read"
+    wait_until 60 is_reading || fail "socat doesn't read"
     run "$program" /member:20 "/config:$folder/ws1.conf" "/keeper:$folder/ws1.keeper" "/clock:$folder/fifo"
     run chronyc -h 127.0.0.1 sources
     grep -q '^#\* AD ' "$folder/said" || fail "chronyd hasn't taken the member's samples"
@@ -278,7 +266,7 @@ kept.lock_all()
 open(sys.argv[2], "w").close()
 time.sleep(600)' "$file" "$folder/is_locked" &
     lock=$!
-    wait_until test -e "$folder/is_locked" || fail "$file wasn't locked"
+    wait_until 60 test -e "$folder/is_locked" || fail "$file wasn't locked"
     wrong "$@"
     kill $lock 2>/dev/null
     wait $lock 2>/dev/null
@@ -362,7 +350,7 @@ no_key_was_seen() {
     echo "== keys that were seen"
 } > >(tee "$folder/shown") 2>&1
 # The copy of what was printed is whole once it has the last line.
-wait_until grep -q '^== keys that were seen$' "$folder/shown"
+wait_until 60 grep -q '^== keys that were seen$' "$folder/shown"
 no_key_was_seen
 [ $failed = 0 ] && echo "samba_domain.sh: all agree"
 exit $failed

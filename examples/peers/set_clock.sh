@@ -16,25 +16,9 @@ find_program
 [ $? != 1 ] || skip "$program has no /clock:"
 in_own_network "$@"
 chmod 755 "$folder"
-failed=0
-fail() {
-    say "$*"
-    failed=1
-}
 
 rid=1103
 key=000102030405060708090a0b0c0d0e0f
-stop() { kill "$@" 2>/dev/null; wait "$@" 2>/dev/null; }
-# Tries each quarter of a second, for so many seconds.
-wait_until() {
-    local quarters=$(($1 * 4))
-    shift
-    for _ in $(seq $quarters); do
-        "$@" && return 0
-        sleep 0.25
-    done
-    return 1
-}
 
 # The server, chronyd and socat. chronyd looks at its samples each 2^$1 seconds, takes the median of the last $2, and keeps a
 # line of each.

@@ -17,9 +17,7 @@ import socket
 import struct
 import sys
 
-HEADER = 48
-SHORT = 68
-SIGN_TO_CLIENT, SIGN_SUCCESS, SIGN_FAILURE = 0, 3, 4
+from signd import HEADER, SHORT, SIGN_FAILURE, SIGN_SUCCESS, SIGN_TO_CLIENT, receive, send
 
 
 def digest(key, header):
@@ -44,26 +42,13 @@ def fill(port, server, key):
             print("signer.py: no reply", file=sys.stderr)
 
 
-def take(stream, count):
-    taken = b""
-    while len(taken) < count:
-        piece = stream.recv(count - len(taken))
-        if not piece:
-            return None
-        taken += piece
-    return taken
-
-
 def sign(folder, rid, key):
     service = socket.socket(socket.AF_UNIX)
     service.bind(os.path.join(folder, "socket"))
     service.listen()
     while True:
         stream, _ = service.accept()
-        while (head := take(stream, 4)) is not None:
-            call = take(stream, *struct.unpack(">I", head))
-            if call is None:
-                break
+        while (call := receive(stream)) is not None:
             version, operation, packet = struct.unpack(">IIH", call[:10])
             # The RID is lowest byte first, as in the message.
             asked = struct.unpack("<I", call[12:16])[0]
@@ -72,7 +57,7 @@ def sign(folder, rid, key):
                 answer = struct.pack(">III", 0, SIGN_SUCCESS, packet) + header + call[12:16] + digest(key, header)
             else:
                 answer = struct.pack(">III", 0, SIGN_FAILURE, packet)
-            stream.sendall(struct.pack(">I", len(answer)) + answer)
+            send(stream, answer)
 
 
 def main(words):

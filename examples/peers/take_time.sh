@@ -16,11 +16,6 @@ else
     say "no network of its own here, so port 123 is left alone"
     free_port
 fi
-failed=0
-fail() {
-    say "$*"
-    failed=1
-}
 
 rid=1103
 key=000102030405060708090a0b0c0d0e0f
@@ -88,7 +83,7 @@ grep -q '^DC1 offset=-\?[0-9]* delay=[0-9]* stratum=1$' "$folder/said" || fail "
 
 echo "== /monitor and twenty servers in Python, each with an answer of its own"
 python3 $peers/responder.py serve "$folder/monitor.conf" &
-for _ in $(seq 200); do [ -e "$folder/monitor.conf" ] && break; sleep 0.05; done
+wait_until 10 test -e "$folder/monitor.conf"
 "$program" /monitor "/config:$folder/monitor.conf" >"$folder/said" || fail "/monitor ended with code $?"
 python3 $peers/responder.py judge <"$folder/said" || fail "/monitor said something else"
 

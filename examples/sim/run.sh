@@ -10,7 +10,6 @@ days=${SIM_DAYS:-10}
 command -v "$compiler" >/dev/null || skip "no $compiler"
 find_program
 "$compiler" -O2 -shared -fPIC -o "$folder/sim.so" examples/sim/sim.c -ldl -lm || exit 1
-failed=0
 
 # Settings with other polls and limits: $folder/NAME.conf.
 settings() {
