@@ -11,6 +11,7 @@ use partner_pick::parse_directory;
 use std::alloc::{AllocError, Global};
 use std::process::Abort;
 use std::test::Fail;
+use test_asserts::{holds, same};
 
 // The first moment of 2020, in ticks: the first reading of every run.
 const R0: i64 = 132_223_104_000_000_000;
@@ -37,6 +38,10 @@ const REPLY: [u8; 48] =
 
 const LINES: &[u8; 92] =
     b"DC1 offset=29000000 delay=2000000 stratum=1\nDC2 error=NoAnswer\ntotal computers=2 answered=1\n";
+
+const FIRST_LINE: &[u8] = b"DC1 offset=29000000 delay=2000000 stratum=1\n";
+
+const BOTH_LINES: &[u8] = b"DC1 offset=29000000 delay=2000000 stratum=1\nDC2 error=NoAnswer\n";
 
 /// The numbers of the calls that fail, of each device; 0 is no call.
 #[derive(Clone, Copy)]
@@ -84,55 +89,85 @@ fn receipts(alloc: Global, from: Addr, bytes: &[u8]) -> Result<Vec<Receipt>, All
     Ok(receipts)
 }
 
+/// A link that gives this datagram first and nothing after it.
+fn link_of(alloc: Global, from: Addr, bytes: &[u8], fails: u64) -> Result<ScriptLink, Fail> {
+    let receipts = receipts(alloc, from, bytes)?;
+    let fails = [fails].to_vec(alloc)?;
+    Ok(ScriptLink::new(alloc, receipts, fails, 8)?)
+}
+
+fn clock_of(alloc: Global, fails: u64) -> Result<ScriptClock, Fail> {
+    let readings = readings(alloc)?;
+    let fails = [fails].to_vec(alloc)?;
+    Ok(ScriptClock::new(alloc, readings, fails, 8)?)
+}
+
+fn entropy_of(alloc: Global, fails: u64) -> Result<ScriptEntropy, Fail> {
+    let words = [1, 7, 2, 8].to_vec(alloc)?;
+    let fails = [fails].to_vec(alloc)?;
+    Ok(ScriptEntropy::new(alloc, words, fails, 8)?)
+}
+
+fn sink_of(alloc: Global, fails: u64) -> Result<ScriptSink, Fail> {
+    let fails = [fails].to_vec(alloc)?;
+    Ok(ScriptSink::new(alloc, fails, 256)?)
+}
+
 /// Asks the computers of a directory, where this datagram comes first and nothing behind it.
 fn run(alloc: Global, text: &[u8], from: Addr, bytes: &[u8], fails: Fails) -> Result<Ran, Fail>
     requires { length text.now ≤ 100 }
 {
     let directory = parse_directory(alloc, text).ok().ok_or("a directory")?;
-    let receipts = receipts(alloc, from, bytes)?;
-    let mut link = ScriptLink::new(alloc, receipts, [fails.link].to_vec(alloc)?, 8)?;
-    let mut clock = ScriptClock::new(alloc, readings(alloc)?, [fails.clock].to_vec(alloc)?, 8)?;
-    let words = [1, 7, 2, 8].to_vec(alloc)?;
-    let mut entropy = ScriptEntropy::new(alloc, words, [fails.entropy].to_vec(alloc)?, 8)?;
-    let mut out = ScriptSink::new(alloc, [fails.out].to_vec(alloc)?, 256)?;
+    let mut link = link_of(alloc, from, bytes, fails.link)?;
+    let mut clock = clock_of(alloc, fails.clock)?;
+    let mut entropy = entropy_of(alloc, fails.entropy)?;
+    let mut out = sink_of(alloc, fails.out)?;
     let why = monitor(&directory, &mut link, &mut clock, &mut entropy, &mut out);
     Ok(Ran { why, link, out })
 }
 
 /// The send went to this address, with this request.
 fn expect_send(rt: &impl Abort, tried: &Tried, to: Addr, bytes: &[u8]) {
-    assert_eq!(rt; tried.to, to);
-    assert_eq!(rt; tried.bytes.as_slice(), bytes);
+    same(rt, &tried.to, &to, &());
+    same(rt, &tried.bytes.as_slice(), &bytes, &to);
+}
+
+/// The run ended so, with these lines and so many requests.
+fn expect_end(rt: &impl Abort, ran: &Ran, why: MonitorWhy, lines: &[u8], sent: usize) {
+    let ended = (ran.why, ran.link.sends().len());
+    same(rt, &ended, &(why, sent), &());
+    same(rt, &ran.out.bytes(), &lines, &());
+}
+
+/// Both computers were asked, each with its own words.
+fn expect_both_asked(rt: &impl Abort, ran: &Ran) {
+    let mut second = REQUEST;
+    second[43] = 2;
+    second[47] = 8;
+    for (tried, (to, bytes)) in ran.link.sends().iter().zip([(DC1, REQUEST), (DC2, second)]) {
+        expect_send(rt, tried, to, &bytes);
+    }
 }
 
 // DC1 answers with known times, and DC2 doesn't.
 #[test]
 fn monitor_of_two(rt: HostRuntime) -> Result<(), Fail> {
     let ran = run(rt.alloc(), TWO, DC1, &REPLY, NONE)?;
-    assert_eq!(rt; ran.why, MonitorWhy::Done);
-    assert_eq!(rt; ran.out.bytes(), LINES.as_slice());
-    let mut second = REQUEST;
-    second[43] = 2;
-    second[47] = 8;
-    match ran.link.sends() {
-        [one, other] => {
-            expect_send(&rt, one, DC1, &REQUEST);
-            expect_send(&rt, other, DC2, &second);
-        }
-        _ => assert!(rt; false),
-    }
+    expect_end(&rt, &ran, MonitorWhy::Done, LINES, 2);
+    expect_both_asked(&rt, &ran);
     Ok(())
 }
 
 #[test]
 fn monitor_of_none(rt: HostRuntime) -> Result<(), Fail> {
     let ran = run(rt.alloc(), b"", DC1, &REPLY, NONE)?;
-    assert_eq!(rt; ran.why, MonitorWhy::Done);
-    assert_eq!(rt;
-        ran.out.bytes(),
-        b"total computers=0 answered=0\n".as_slice()
+    expect_end(
+        &rt,
+        &ran,
+        MonitorWhy::Done,
+        b"total computers=0 answered=0\n",
+        0,
     );
-    assert!(rt; ran.link.sends().is_empty());
     Ok(())
 }
 
@@ -163,29 +198,67 @@ fn spoilt(first: usize, end: usize) -> (Addr, [u8; 49], usize)
 
 /// The line of DC1 is this one.
 fn expect_line(rt: &impl Abort, ran: &Ran, line: &str) {
-    assert_eq!(rt; ran.why, MonitorWhy::Done);
-    assert!(rt; ran.out.bytes().starts_with(line.as_bytes()), "{line}");
+    same(rt, &ran.why, &MonitorWhy::Done, &line);
+    holds(rt, ran.out.bytes().starts_with(line.as_bytes()), &line);
+}
+
+const WORDS: [&str; 6] = [
+    "DC1 error=BadLength\n",
+    "DC1 error=BadSource\n",
+    "DC1 error=BadMode\n",
+    "DC1 error=BadStratum\n",
+    "DC1 error=NoRequest\n",
+    "DC1 error=BadTimes\n",
+];
+
+/// The answer with the faults from one to before another has this word.
+fn expect_word(
+    rt: &impl Abort,
+    alloc: Global,
+    first: usize,
+    end: usize,
+    word: &str,
+) -> Result<(), Fail> {
+    let (from, bytes, len) = spoilt(first, end);
+    let ran = run(alloc, TWO, from, &bytes[..len], NONE)?;
+    expect_line(rt, &ran, word);
+    Ok(())
 }
 
 // Each fault by itself, and with all those behind it.
 #[test]
 fn first_word_that_applies(rt: HostRuntime) -> Result<(), Fail> {
-    let words = [
-        "DC1 error=BadLength\n",
-        "DC1 error=BadSource\n",
-        "DC1 error=BadMode\n",
-        "DC1 error=BadStratum\n",
-        "DC1 error=NoRequest\n",
-        "DC1 error=BadTimes\n",
-    ];
-    for (first, word) in words.iter().enumerate() {
-        for end in [first + 1, 6] {
-            let (from, bytes, len) = spoilt(first, end);
-            let ran = run(rt.alloc(), TWO, from, &bytes[..len], NONE)?;
-            expect_line(&rt, &ran, word);
-        }
+    for (first, word) in WORDS.iter().enumerate() {
+        expect_word(&rt, rt.alloc(), first, first + 1, word)?;
+        expect_word(&rt, rt.alloc(), first, 6, word)?;
     }
     Ok(())
+}
+
+const OTHER_PORT: Addr = Addr {
+    ip: DC1.ip,
+    port: 124,
+};
+
+/// Who answers, a byte of the answer and what stands there, and the line.
+type Edge = (Addr, usize, u8, &'static str);
+
+const EDGES: &[Edge] = &[
+    (DC1, 0, 0xDC, "DC1 error=BadStratum\n"),
+    (DC1, 1, 0, "DC1 error=BadStratum\n"),
+    (DC1, 1, 15, "DC1 offset=29000000 delay=2000000 stratum=15\n"),
+    (DC1, 2, 6, "DC1 offset=29000000 delay=2000000 stratum=1\n"),
+    (DC1, 43, 0x84, "DC1 error=BadTimes\n"),
+    (OTHER_PORT, 1, 1, "DC1 error=BadSource\n"),
+];
+
+/// The answer with another byte at a place.
+fn with_byte(place: usize, byte: u8) -> [u8; 48] {
+    let mut bytes = REPLY;
+    if let Some(changed) = bytes.get_mut(place) {
+        *changed = byte;
+    }
+    bytes
 }
 
 // A leap indicator of 3 and a stratum of 0 are those of a clock that isn't synchronized, and 15 is the last stratum. The
@@ -193,22 +266,8 @@ fn first_word_that_applies(rt: HostRuntime) -> Result<(), Fail> {
 // Another port is another source.
 #[test]
 fn edges_of_words(rt: HostRuntime) -> Result<(), Fail> {
-    let other_port = Addr {
-        ip: DC1.ip,
-        port: 124,
-    };
-    let cases: [(Addr, usize, u8, &str); 6] = [
-        (DC1, 0, 0xDC, "DC1 error=BadStratum\n"),
-        (DC1, 1, 0, "DC1 error=BadStratum\n"),
-        (DC1, 1, 15, "DC1 offset=29000000 delay=2000000 stratum=15\n"),
-        (DC1, 2, 6, "DC1 offset=29000000 delay=2000000 stratum=1\n"),
-        (DC1, 43, 0x84, "DC1 error=BadTimes\n"),
-        (other_port, 1, 1, "DC1 error=BadSource\n"),
-    ];
-    for (from, place, byte, line) in cases {
-        let mut bytes = REPLY;
-        bytes[place] = byte;
-        let ran = run(rt.alloc(), TWO, from, &bytes, NONE)?;
+    for (from, place, byte, line) in EDGES {
+        let ran = run(rt.alloc(), TWO, *from, &with_byte(*place, *byte), NONE)?;
         expect_line(&rt, &ran, line);
     }
     Ok(())
@@ -216,80 +275,82 @@ fn edges_of_words(rt: HostRuntime) -> Result<(), Fail> {
 
 // The calls of the link: a send and a receive for each entry. A failed send is no end and no word; a failed receive is
 // no answer, and the datagram is taken for the next entry.
+const LINK_CALLS: &[(u64, &[u8])] = &[
+    (1, LINES),
+    (
+        2,
+        b"DC1 error=NoAnswer\nDC2 error=BadSource\ntotal computers=2 answered=0\n",
+    ),
+    (4, LINES),
+];
+
 #[test]
 fn failed_calls_of_the_link(rt: HostRuntime) -> Result<(), Fail> {
-    let cases: [(u64, &[u8]); 3] = [
-        (1, LINES),
-        (
-            2,
-            b"DC1 error=NoAnswer\nDC2 error=BadSource\ntotal computers=2 answered=0\n",
-        ),
-        (4, LINES),
-    ];
-    for (link, lines) in cases {
-        let ran = run(rt.alloc(), TWO, DC1, &REPLY, Fails { link, ..NONE })?;
-        assert_eq!(rt; ran.why, MonitorWhy::Done);
-        assert_eq!(rt; ran.out.bytes(), lines);
-        assert_eq!(rt; ran.link.sends().len(), 2);
+    for (link, lines) in LINK_CALLS {
+        let fails = Fails {
+            link: *link,
+            ..NONE
+        };
+        let ran = run(rt.alloc(), TWO, DC1, &REPLY, fails)?;
+        expect_end(&rt, &ran, MonitorWhy::Done, lines, 2);
     }
     Ok(())
 }
 
 // Each call of clock, entropy and sink fails in turn: what was written, and how many requests were sent.
+const FAULTS: &[(Fails, MonitorWhy, &[u8], usize)] = &[
+    (Fails { clock: 1, ..NONE }, MonitorWhy::ClockFault, b"", 0),
+    (Fails { clock: 2, ..NONE }, MonitorWhy::ClockFault, b"", 1),
+    (
+        Fails { clock: 3, ..NONE },
+        MonitorWhy::ClockFault,
+        FIRST_LINE,
+        1,
+    ),
+    (
+        Fails { entropy: 1, ..NONE },
+        MonitorWhy::EntropyFault,
+        b"",
+        0,
+    ),
+    (
+        Fails { entropy: 2, ..NONE },
+        MonitorWhy::EntropyFault,
+        b"",
+        0,
+    ),
+    (
+        Fails { entropy: 3, ..NONE },
+        MonitorWhy::EntropyFault,
+        FIRST_LINE,
+        1,
+    ),
+    (
+        Fails { entropy: 4, ..NONE },
+        MonitorWhy::EntropyFault,
+        FIRST_LINE,
+        1,
+    ),
+    (Fails { out: 1, ..NONE }, MonitorWhy::WriteFault, b"", 1),
+    (
+        Fails { out: 2, ..NONE },
+        MonitorWhy::WriteFault,
+        FIRST_LINE,
+        2,
+    ),
+    (
+        Fails { out: 3, ..NONE },
+        MonitorWhy::WriteFault,
+        BOTH_LINES,
+        2,
+    ),
+];
+
 #[test]
 fn faults_of_a_monitor(rt: HostRuntime) -> Result<(), Fail> {
-    let cases: [(Fails, MonitorWhy, &[u8], usize); 10] = [
-        (Fails { clock: 1, ..NONE }, MonitorWhy::ClockFault, b"", 0),
-        (Fails { clock: 2, ..NONE }, MonitorWhy::ClockFault, b"", 1),
-        (
-            Fails { clock: 3, ..NONE },
-            MonitorWhy::ClockFault,
-            &LINES[..44],
-            1,
-        ),
-        (
-            Fails { entropy: 1, ..NONE },
-            MonitorWhy::EntropyFault,
-            b"",
-            0,
-        ),
-        (
-            Fails { entropy: 2, ..NONE },
-            MonitorWhy::EntropyFault,
-            b"",
-            0,
-        ),
-        (
-            Fails { entropy: 3, ..NONE },
-            MonitorWhy::EntropyFault,
-            &LINES[..44],
-            1,
-        ),
-        (
-            Fails { entropy: 4, ..NONE },
-            MonitorWhy::EntropyFault,
-            &LINES[..44],
-            1,
-        ),
-        (Fails { out: 1, ..NONE }, MonitorWhy::WriteFault, b"", 1),
-        (
-            Fails { out: 2, ..NONE },
-            MonitorWhy::WriteFault,
-            &LINES[..44],
-            2,
-        ),
-        (
-            Fails { out: 3, ..NONE },
-            MonitorWhy::WriteFault,
-            &LINES[..63],
-            2,
-        ),
-    ];
-    for (fails, why, lines, sends) in cases {
-        let ran = run(rt.alloc(), TWO, DC1, &REPLY, fails)?;
-        assert_eq!(rt; ran.why, why);
-        assert_eq!(rt; ran.out.bytes(), lines);
-        assert_eq!(rt; ran.link.sends().len(), sends);
+    for (fails, why, lines, sent) in FAULTS {
+        let ran = run(rt.alloc(), TWO, DC1, &REPLY, *fails)?;
+        expect_end(&rt, &ran, *why, lines, *sent);
     }
     Ok(())
 }

@@ -9,6 +9,7 @@ use key_book::Account;
 use std::alloc::{AllocError, Global};
 use std::process::Abort;
 use std::test::Fail;
+use test_asserts::same;
 
 // The first moment of 2020, in ticks, and a millisecond later.
 const RECEIVED: i64 = 132_223_104_000_000_000;
@@ -83,102 +84,131 @@ fn readings_of(alloc: Global, times: usize) -> Result<Vec<i64>, AllocError>
 }
 
 /// Nothing counted, and all turns taken.
-fn nothing() -> ServeEnd {
-    ServeEnd {
-        signed: 0,
-        plain: 0,
-        refused: [0; 5],
-        quiet: 0,
-        lost: 0,
-        unsent: 0,
-        why: ServeWhy::Done,
-    }
+const NOTHING: ServeEnd = ServeEnd {
+    signed: 0,
+    plain: 0,
+    refused: [0; 5],
+    quiet: 0,
+    lost: 0,
+    unsent: 0,
+    why: ServeWhy::Done,
+};
+
+/// What a run came to.
+#[derive(Drop)]
+struct Served {
+    end: ServeEnd,
+    link: ScriptLink,
+    clock: ScriptClock,
+}
+
+/// A link over which these come, of which these calls fail.
+fn link_of(alloc: Global, all: &[Came], fails: &[u64]) -> Result<ScriptLink, Fail> {
+    let receipts = receipts_of(alloc, all)?;
+    let fails = fails.to_vec(alloc)?;
+    Ok(ScriptLink::new(alloc, receipts, fails, 8)?)
+}
+
+/// A clock that gives both readings twice, of which this call fails; 0 is no call.
+fn clock_of(alloc: Global, fails: u64) -> Result<ScriptClock, Fail> {
+    let readings = readings_of(alloc, 2)?;
+    let fails = [fails].to_vec(alloc)?;
+    Ok(ScriptClock::new(alloc, readings, fails, 8)?)
+}
+
+/// So many turns over these devices.
+fn run(turns: u32, mut link: ScriptLink, mut clock: ScriptClock) -> Served {
+    let end = serve(turns, &mut link, &mut clock, &ACCOUNT);
+    Served { end, link, clock }
 }
 
 /// The one send went to the client, with these bytes and this answer.
 fn expect_send(rt: &impl Abort, tried: &Tried, bytes: &[u8], put: Put) {
-    assert_eq!(rt; tried.to, CLIENT);
-    assert_eq!(rt; tried.bytes.as_slice(), bytes);
-    assert_eq!(rt; tried.put, put);
+    same(rt, &(tried.to, tried.put), &(CLIENT, put), &());
+    same(rt, &tried.bytes.as_slice(), &bytes, &());
 }
+
+/// The sends are these replies, with their answers.
+fn expect_sends(rt: &impl Abort, served: &Served, want: &[(&[u8], Put)]) {
+    let sends = served.link.sends();
+    same(rt, &sends.len(), &want.len(), &());
+    for (tried, (bytes, put)) in sends.iter().zip(want) {
+        expect_send(rt, tried, bytes, *put);
+    }
+}
+
+const ONE_REPLY: ServeEnd = ServeEnd {
+    signed: 1,
+    refused: [0, 0, 0, 1, 0],
+    quiet: 1,
+    ..NOTHING
+};
 
 #[test]
 fn controller_run(rt: HostRuntime) -> Result<(), Fail> {
-    let alloc = rt.alloc();
-    let receipts = receipts_of(alloc, &[Came::Signed, Came::Unknown, Came::Nothing])?;
-    let mut link = ScriptLink::new(alloc, receipts, Vec::new(alloc), 8)?;
-    let mut clock = ScriptClock::new(alloc, readings_of(alloc, 2)?, Vec::new(alloc), 8)?;
-    let end = serve(3, &mut link, &mut clock, &ACCOUNT);
-    assert_eq!(rt;
-        end,
-        ServeEnd {
-            signed: 1,
-            refused: [0, 0, 0, 1, 0],
-            quiet: 1,
-            ..nothing()
-        }
-    );
-    match link.sends() {
-        [tried] => expect_send(&rt, tried, &REPLY, Put::Done),
-        _ => assert!(rt; false),
-    }
-    assert!(rt; clock.moves().is_empty());
+    let link = link_of(
+        rt.alloc(),
+        &[Came::Signed, Came::Unknown, Came::Nothing],
+        &[],
+    )?;
+    let clock = clock_of(rt.alloc(), 0)?;
+    let served = run(3, link, clock);
+    same(&rt, &served.end, &ONE_REPLY, &());
+    expect_sends(&rt, &served, &[(&REPLY, Put::Done)]);
+    same(&rt, &served.clock.moves().len(), &0, &());
     Ok(())
 }
+
+const TWO_FAILED: ServeEnd = ServeEnd {
+    signed: 1,
+    plain: 1,
+    quiet: 1,
+    lost: 1,
+    unsent: 1,
+    ..NOTHING
+};
 
 // The calls of the link: a receive, a send that fails, a receive, a send, a receive that fails, a quiet receive. A reply
 // that waited for the next receipt would fail at another call.
 #[test]
 fn failed_calls_of_a_run(rt: HostRuntime) -> Result<(), Fail> {
-    let alloc = rt.alloc();
-    let receipts = receipts_of(alloc, &[Came::Plain, Came::Signed])?;
-    let mut link = ScriptLink::new(alloc, receipts, [2, 5].to_vec(alloc)?, 8)?;
-    let mut clock = ScriptClock::new(alloc, readings_of(alloc, 2)?, Vec::new(alloc), 8)?;
-    let end = serve(4, &mut link, &mut clock, &ACCOUNT);
-    assert_eq!(rt;
-        end,
-        ServeEnd {
-            signed: 1,
-            plain: 1,
-            quiet: 1,
-            lost: 1,
-            unsent: 1,
-            ..nothing()
-        }
-    );
-    match link.sends() {
-        [first, second] => {
-            expect_send(&rt, first, &REPLY[..48], Put::Failed);
-            expect_send(&rt, second, &REPLY, Put::Done);
-        }
-        _ => assert!(rt; false),
-    }
+    let link = link_of(rt.alloc(), &[Came::Plain, Came::Signed], &[2, 5])?;
+    let clock = clock_of(rt.alloc(), 0)?;
+    let served = run(4, link, clock);
+    same(&rt, &served.end, &TWO_FAILED, &());
+    let sends: [(&[u8], Put); 2] = [(&REPLY[..48], Put::Failed), (&REPLY, Put::Done)];
+    expect_sends(&rt, &served, &sends);
     Ok(())
 }
 
-// The first or the second reading of the second datagram fails. The third one is not received.
+const NO_READING: ServeEnd = ServeEnd {
+    signed: 1,
+    why: ServeWhy::ClockFault,
+    ..NOTHING
+};
+
+/// The length of the datagram that a link gives next.
+fn waits_of(link: &mut ScriptLink) -> Option<usize> {
+    match link.recv() {
+        Receipt::Got(_, bytes) => Some(bytes.as_slice().len()),
+        _ => None,
+    }
+}
+
+/// A run of which this reading fails. The datagram after it is not received.
+fn expect_clock_fault(rt: &impl Abort, alloc: Global, fails: u64) -> Result<(), Fail> {
+    let link = link_of(alloc, &[Came::Signed, Came::Signed, Came::Plain], &[])?;
+    let clock = clock_of(alloc, fails)?;
+    let mut served = run(3, link, clock);
+    same(rt, &served.end, &NO_READING, &fails);
+    same(rt, &served.link.sends().len(), &1, &fails);
+    same(rt, &waits_of(&mut served.link), &Some(48), &fails);
+    Ok(())
+}
+
+// The first or the second reading of the second datagram fails.
 #[test]
 fn clock_faults_of_a_run(rt: HostRuntime) -> Result<(), Fail> {
-    let alloc = rt.alloc();
-    for fails in [3, 4] {
-        let receipts = receipts_of(alloc, &[Came::Signed, Came::Signed, Came::Plain])?;
-        let mut link = ScriptLink::new(alloc, receipts, Vec::new(alloc), 8)?;
-        let readings = readings_of(alloc, 2)?;
-        let mut clock = ScriptClock::new(alloc, readings, [fails].to_vec(alloc)?, 8)?;
-        let end = serve(3, &mut link, &mut clock, &ACCOUNT);
-        assert_eq!(rt;
-            end,
-            ServeEnd {
-                signed: 1,
-                why: ServeWhy::ClockFault,
-                ..nothing()
-            }
-        );
-        assert_eq!(rt; link.sends().len(), 1);
-        match link.recv() {
-            Receipt::Got(_, request) => assert_eq!(rt; request.as_slice().len(), 48),
-            _ => assert!(rt; false),
-        }
-    }
-    Ok(())
+    expect_clock_fault(&rt, rt.alloc(), 3)?;
+    expect_clock_fault(&rt, rt.alloc(), 4)
 }

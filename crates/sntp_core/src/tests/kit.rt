@@ -1,4 +1,4 @@
-//! What the tests share: settings, a member that is told events and writes its lines, and replies.
+//! What the tests share: settings, a member that is told events and writes its lines, replies, and a comparison.
 ghost use Rattle.std.specs.Prelude.{◌≡◌, ◌<◌, ◌≤◌, ◌^◌, IsTrue, length};
 ghost use Rattle.base_specs.specs.Time.{IsReading};
 ghost use Rattle.time_machine.specs.Events.{IsRead};
@@ -11,6 +11,8 @@ use ms_auth::{Kind, Packet, Tail, sign, write_packet};
 use ntp_wire::{Header, Stamp, to_ntp};
 use phase_rule::Limits;
 use std::alloc::Global;
+use std::fmt::Debug;
+use std::process::Abort;
 use std::test::Fail;
 
 /// 1 January 2020, in ticks.
@@ -46,6 +48,27 @@ pub const QUICK: Limits = Limits {
     min_poll: 0,
     max_poll: 17,
 };
+
+/// What a member is told, with the reading of its clock. A reply comes from the first partner and is signed under the
+/// current key.
+#[derive(Clone, Copy)]
+pub enum Told {
+    /// A life with this mark.
+    Life(i64, u32),
+    /// A Tick with this word.
+    Tick(i64, u32),
+    /// A call with this word and these flags.
+    Resync(i64, u32, u32),
+    /// The reply to the request with this count and word, which was sent at this time: received 3 seconds later by the
+    /// server's clock, and sent a millisecond after that.
+    Reply(i64, u32, u32, i64),
+    /// The same, received and sent at these times by the server's clock.
+    ReplyBy(i64, u32, u32, i64, i64),
+    /// These bytes from the first partner.
+    Bytes(i64, &'static [u8]),
+    /// The lines so far are dropped.
+    Forget,
+}
 
 /// A member that is told events one by one, and the lines that it wrote.
 #[derive(Drop)]
@@ -91,26 +114,82 @@ impl Run {
         Ok(outcome)
     }
 
-    pub fn life(&mut self, now: i64, mark: u32) -> Result<(), Fail> {
-        self.take(&Event::Life { now, mark })?;
-        Ok(())
+    /// Whether what is told is admitted. A reply is never asked for.
+    pub fn admits(&self, told: Told) -> bool {
+        match told {
+            Told::Life(now, mark) => self.member.admits(&Event::Life { now, mark }),
+            Told::Tick(now, word) => self.member.admits(&Event::Tick { now, word }),
+            Told::Resync(now, word, flags) => {
+                self.member.admits(&Event::Resync { now, word, flags })
+            }
+            _ => false,
+        }
     }
 
-    pub fn tick(&mut self, now: i64, word: u32) -> Result<(), Fail> {
-        self.take(&Event::Tick { now, word })?;
-        Ok(())
-    }
-
-    pub fn resync(&mut self, now: i64, word: u32, flags: u32) -> Result<(), Fail> {
-        self.take(&Event::Resync { now, word, flags })?;
-        Ok(())
-    }
-
-    pub fn arrive(&mut self, now: i64, from: Addr, bytes: &[u8]) -> Result<(), Fail> {
+    /// Takes bytes from a sender.
+    pub fn arrive(&mut self, now: i64, from: Addr, bytes: &[u8]) -> Result<Outcome, Fail> {
         let bytes = Datagram::from_slice(bytes);
-        self.take(&Event::Arrive { now, from, bytes })?;
+        self.take(&Event::Arrive { now, from, bytes })
+    }
+
+    /// Takes the reply to the request with this count and word.
+    fn reply(
+        &mut self,
+        now: i64,
+        count: u32,
+        word: u32,
+        received: i64,
+        sent: i64,
+    ) -> Result<Outcome, Fail> {
+        let reply = short(header(count, word, received, sent)?, RID);
+        self.arrive(now, FIRST, reply.as_slice())
+    }
+
+    /// Takes what is told.
+    pub fn tell(&mut self, told: Told) -> Result<Outcome, Fail> {
+        match told {
+            Told::Life(now, mark) => self.take(&Event::Life { now, mark }),
+            Told::Tick(now, word) => self.take(&Event::Tick { now, word }),
+            Told::Resync(now, word, flags) => self.take(&Event::Resync { now, word, flags }),
+            Told::Reply(now, count, word, t1) => {
+                let received = t1.saturating_add(3 * SECOND);
+                self.reply(now, count, word, received, received.saturating_add(10_000))
+            }
+            Told::ReplyBy(now, count, word, received, sent) => {
+                self.reply(now, count, word, received, sent)
+            }
+            Told::Bytes(now, bytes) => self.arrive(now, FIRST, bytes),
+            Told::Forget => {
+                self.report.clear();
+                Ok(Outcome::Idle)
+            }
+        }
+    }
+
+    /// Takes one after the other.
+    pub fn tell_all(&mut self, all: &[Told]) -> Result<(), Fail> {
+        for told in all {
+            self.tell(*told)?;
+        }
         Ok(())
     }
+}
+
+/// What a member with these limits and partners writes where it is told these.
+pub fn report_of(
+    alloc: Global,
+    limits: Limits,
+    addrs: &[Addr],
+    all: &[Told],
+) -> Result<Vec<u8>, Fail> {
+    let mut run = Run::new(alloc, Kind::Short, limits, addrs)?;
+    run.tell_all(all)?;
+    Ok(run.report)
+}
+
+/// Both values are the same in this case. A test's proof has a call of it where `assert_eq!` would be written out.
+pub fn same<T: PartialEq + Debug, C: Debug>(rt: &impl Abort, got: &T, want: &T, case: &C) {
+    assert_eq!(rt; *got, *want, "{case:?}");
 }
 
 fn is_reading(now: i64) -> bool
@@ -163,16 +242,4 @@ pub fn short(header: Header, key_id: u32) -> Datagram {
         sum: [0; 16],
     };
     write_packet(&sign(&Packet { header, tail }, &KEY))
-}
-
-/// The reply to the request that was sent at `t1`, received 3 seconds later by the server's clock and sent a
-/// millisecond after that.
-pub fn reply(count: u32, word: u32, t1: i64) -> Result<Datagram, Fail> {
-    if !is_reading(t1) {
-        return Err(Fail::from("no reading"));
-    }
-    Ok(short(
-        header(count, word, t1 + 3 * SECOND, t1 + 3 * SECOND + 10_000)?,
-        RID,
-    ))
 }

@@ -1,7 +1,8 @@
 //! Replies whose checksums were computed outside.
-use super::kit::{FIRST, QUICK, R0, Run};
+use super::kit::{FIRST, QUICK, R0, Run, Told, same};
 use ms_auth::Kind;
 use std::alloc::Global;
+use std::process::Abort;
 use std::test::Fail;
 
 /// When the request with the count 3 and the word 3 was sent.
@@ -36,66 +37,95 @@ const PREVIOUS_EXTENDED: [u8; 64] =
 /// What a member of this kind answers to these bytes, which come 2,010,000 ticks after its request: its last line.
 fn line_for(alloc: Global, kind: Kind, bytes: &[u8]) -> Result<Vec<u8>, Fail> {
     let mut run = Run::new(alloc, kind, QUICK, &[FIRST])?;
-    run.life(R0, 2)?;
-    run.tick(T1, 3)?;
-    run.report.clear();
+    run.tell_all(&[Told::Life(R0, 2), Told::Tick(T1, 3), Told::Forget])?;
     run.arrive(T1 + 2_010_000, FIRST, bytes)?;
     Ok(run.report)
 }
 
+fn expect_line(
+    rt: &impl Abort,
+    alloc: Global,
+    kind: Kind,
+    bytes: &[u8],
+    want: &[u8],
+) -> Result<(), Fail> {
+    let found = line_for(alloc, kind, bytes)?;
+    same(rt, &found.as_slice(), &want, &bytes);
+    Ok(())
+}
+
 const MOVED: &[u8] = b"moved n=3 offset=29000000 by=slew\n";
 
+const KEY_ID: &[u8] = b"refused reason=BadKeyId\n";
+
+const DIGEST: &[u8] = b"refused reason=BadDigest\n";
+
+const LENGTH: &[u8] = b"refused reason=BadLength\n";
+
+/// A checksum, a byte that is changed, what stands there, and the line.
+type Row<'a> = (&'a [u8], usize, u8, &'static [u8]);
+
 // The changed byte is one of the tail, which the digest doesn't cover, or of the checksum.
-#[test]
-fn short_replies(rt: HostRuntime) -> Result<(), Fail> {
-    let cases: [([u8; 16], usize, u8, &[u8]); 7] = [
-        (CURRENT_SUM, 0, 0x1C, MOVED),
-        (PREVIOUS_SUM, 0, 0x1C, MOVED),
-        (CURRENT_SUM, 51, 0x80, MOVED),
-        (CURRENT_SUM, 48, 0x50, b"refused reason=BadKeyId\n"),
-        (CURRENT_SUM, 67, 0x7F, b"refused reason=BadDigest\n"),
-        (PREVIOUS_SUM, 52, 0xC1, b"refused reason=BadDigest\n"),
-        ([0; 16], 0, 0x1C, b"refused reason=BadDigest\n"),
-    ];
-    for (sum, place, byte, line) in cases {
-        let mut bytes = [0; 68];
-        bytes[..48].copy_from_slice(&HEADER);
-        bytes[48..52].copy_from_slice(b"\x4F\x04\0\0");
-        bytes[52..].copy_from_slice(&sum);
-        assert!(rt; place < bytes.len());
-        bytes[place] = byte;
-        let found = line_for(rt.alloc(), Kind::Short, &bytes)?;
-        assert_eq!(rt; found.as_slice(), line, "at {place}, {byte:X}");
-        let other = line_for(rt.alloc(), Kind::Extended, &bytes)?;
-        assert_eq!(rt; other.as_slice(), b"refused reason=BadLength\n".as_slice());
+const SHORT: &[Row<'static>] = &[
+    (&CURRENT_SUM, 0, 0x1C, MOVED),
+    (&PREVIOUS_SUM, 0, 0x1C, MOVED),
+    (&CURRENT_SUM, 51, 0x80, MOVED),
+    (&CURRENT_SUM, 48, 0x50, KEY_ID),
+    (&CURRENT_SUM, 67, 0x7F, DIGEST),
+    (&PREVIOUS_SUM, 52, 0xC1, DIGEST),
+    (&[0; 16], 0, 0x1C, DIGEST),
+];
+
+const EXTENDED: &[Row<'static>] = &[
+    (&CURRENT_EXTENDED, 0, 0x1C, MOVED),
+    (&PREVIOUS_EXTENDED, 0, 0x1C, MOVED),
+    (&CURRENT_EXTENDED, 52, 1, MOVED),
+    (&CURRENT_EXTENDED, 53, 1, MOVED),
+    (&CURRENT_EXTENDED, 54, 0, MOVED),
+    (&CURRENT_EXTENDED, 51, 0x80, KEY_ID),
+    (&CURRENT_EXTENDED, 55, 0, KEY_ID),
+    (&CURRENT_EXTENDED, 119, 0x37, DIGEST),
+    (&[0; 64], 0, 0x1C, DIGEST),
+];
+
+/// The header, the front of a tail and a checksum, where one byte is changed.
+fn bytes_of(alloc: Global, front: &[u8], row: &Row) -> Result<Vec<u8>, Fail> {
+    let (sum, place, byte, _) = *row;
+    let mut bytes = HEADER.to_vec(alloc)?;
+    bytes.extend_from_slice(front)?;
+    bytes.extend_from_slice(sum)?;
+    match bytes.get_mut(place) {
+        Some(changed) => *changed = byte,
+        None => return Err(Fail::from("no such byte")),
+    }
+    Ok(bytes)
+}
+
+/// A member of this kind answers so to the bytes of each row, and one of the other kind finds their length bad.
+fn expect_rows(
+    rt: &impl Abort,
+    alloc: Global,
+    kinds: [Kind; 2],
+    front: &[u8],
+    rows: &[Row],
+) -> Result<(), Fail> {
+    for row in rows {
+        let bytes = bytes_of(alloc, front, row)?;
+        expect_line(rt, alloc, kinds[0], &bytes, row.3)?;
+        expect_line(rt, alloc, kinds[1], &bytes, LENGTH)?;
     }
     Ok(())
 }
 
 #[test]
+fn short_replies(rt: HostRuntime) -> Result<(), Fail> {
+    let kinds = [Kind::Short, Kind::Extended];
+    expect_rows(&rt, rt.alloc(), kinds, b"\x4F\x04\0\0", SHORT)
+}
+
+#[test]
 fn extended_replies(rt: HostRuntime) -> Result<(), Fail> {
-    let cases: [([u8; 64], usize, u8, &[u8]); 9] = [
-        (CURRENT_EXTENDED, 0, 0x1C, MOVED),
-        (PREVIOUS_EXTENDED, 0, 0x1C, MOVED),
-        (CURRENT_EXTENDED, 52, 1, MOVED),
-        (CURRENT_EXTENDED, 53, 1, MOVED),
-        (CURRENT_EXTENDED, 54, 0, MOVED),
-        (CURRENT_EXTENDED, 51, 0x80, b"refused reason=BadKeyId\n"),
-        (CURRENT_EXTENDED, 55, 0, b"refused reason=BadKeyId\n"),
-        (CURRENT_EXTENDED, 119, 0x37, b"refused reason=BadDigest\n"),
-        ([0; 64], 0, 0x1C, b"refused reason=BadDigest\n"),
-    ];
-    for (sum, place, byte, line) in cases {
-        let mut bytes = [0; 120];
-        bytes[..48].copy_from_slice(&HEADER);
-        bytes[48..56].copy_from_slice(b"\x4F\x04\0\0\0\0\x01\x01");
-        bytes[56..].copy_from_slice(&sum);
-        assert!(rt; place < bytes.len());
-        bytes[place] = byte;
-        let found = line_for(rt.alloc(), Kind::Extended, &bytes)?;
-        assert_eq!(rt; found.as_slice(), line, "at {place}, {byte:X}");
-        let other = line_for(rt.alloc(), Kind::Short, &bytes)?;
-        assert_eq!(rt; other.as_slice(), b"refused reason=BadLength\n".as_slice());
-    }
-    Ok(())
+    let kinds = [Kind::Extended, Kind::Short];
+    let front = b"\x4F\x04\0\0\0\0\x01\x01";
+    expect_rows(&rt, rt.alloc(), kinds, front, EXTENDED)
 }
