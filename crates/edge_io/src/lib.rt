@@ -47,8 +47,6 @@ mod session;
 mod sink;
 mod source;
 mod tcp_wire;
-#[cfg(test)]
-mod tests;
 mod udp_link;
 mod wire;
 mod writer;

@@ -79,7 +79,6 @@ pub fn random_file<R: Files>(files: &R) -> io::Result<RandomFile<R::File>> {
 #[cfg(test)]
 mod tests {
     use super::*;
-    use std::test::Fail;
 
     /// Whether the words are drawn one after the other.
     fn draws<E: Entropy>(words: &mut E, wanted: &[Drawn]) -> bool {
@@ -107,23 +106,5 @@ mod tests {
         let mut none = RandomFile::<&[u8]>::without_file();
         let is_drawn = draws(&mut none, &[Drawn::Failed]);
         assert_eq!(rt; (is_drawn, none.faults), (true, 1));
-    }
-
-    /// Whether these are words that aren't all the same. Three random words are once in 2^64 runs.
-    fn are_random(drawn: [Drawn; 3]) -> bool {
-        match drawn {
-            [Drawn::Word(first), Drawn::Word(second), Drawn::Word(third)] => {
-                first != second || second != third
-            }
-            _ => false,
-        }
-    }
-
-    #[test]
-    fn words_of_the_machine(rt: HostRuntime) -> Result<(), Fail> {
-        let mut machine = random_file(&rt)?;
-        let drawn = [machine.word(), machine.word(), machine.word()];
-        assert!(rt; are_random(drawn));
-        Ok(())
     }
 }

@@ -85,31 +85,3 @@ pub(crate) fn read_again<R: Read>(reader: &mut R, buf: &mut [u8]) -> io::Result<
     }
     Err(io::Error::from(ErrorKind::TimedOut))
 }
-
-#[cfg(test)]
-mod tests {
-    use super::*;
-    use std::test::Fail;
-
-    /// Whether the next read gives these bytes.
-    fn gives<S: Source>(source: &mut S, want: &[u8]) -> bool {
-        let mut buf = [0; 9];
-        match source.read(&mut buf) {
-            Take::Bytes(count) => buf.get(..count) == Some(want),
-            _ => false,
-        }
-    }
-
-    #[test]
-    fn files_as_sources(rt: HostRuntime) -> Result<(), Fail> {
-        let mut system = file_source(&rt, "/proc/sys/kernel/ostype")?;
-        let is_system = gives(&mut system, b"Linux\n");
-        let end = system.read(&mut [0; 9]);
-        let mut folder = file_source(&rt, "/")?;
-        let failed = folder.read(&mut [0; 9]);
-        let is_missing = file_source(&rt, "/proc/no/such/file").is_err();
-        assert_eq!(rt; (is_system, is_missing), (true, true));
-        assert_eq!(rt; [end, failed], [Take::End, Take::Failed]);
-        Ok(())
-    }
-}

@@ -270,22 +270,4 @@ mod tests {
         let wrong = first_wrong_call(&mut clock, ENDS);
         assert_eq!(rt; (wrong, clock.faults), (None, 2));
     }
-
-    #[test]
-    fn the_machines_own_clock(rt: HostRuntime) {
-        let mut clock = RealClock::new(&rt);
-        let Reading::At(first) = clock.now() else {
-            assert!(rt; false, "the clock can't be had");
-            return;
-        };
-        // From 2020 to 2200.
-        assert!(rt; 132_223_104_000_000_000 < first && first < 189_000_000_000_000_000);
-        clock.step(36_000_000_000);
-        let Reading::At(second) = clock.now() else {
-            assert!(rt; false, "the clock can't be had");
-            return;
-        };
-        let hour = second.wrapping_sub(first);
-        assert!(rt; 36_000_000_000 <= hour && hour < 36_600_000_000, "{hour}");
-    }
 }

@@ -165,10 +165,7 @@ fn put_sample<W: Write>(writer: &mut W, since_1970: Duration, offset: i64) -> bo
 #[cfg(test)]
 mod tests {
     use super::*;
-    use std::alloc::AllocError;
     use std::fs;
-    use std::io::Read;
-    use std::os::fd::{AsRawFd, RawFd};
     use std::test::Fail;
 
     const FOLDER: &str = "edge_io_samples";
@@ -260,34 +257,6 @@ mod tests {
             let path = String::from_str(rt.alloc(), path)?;
             assert!(rt; stops(&rt, path));
         }
-        Ok(())
-    }
-
-    /// A clock whose samples go to this descriptor.
-    fn clock_to<'a>(
-        rt: &'a HostRuntime,
-        fd: RawFd,
-    ) -> Result<SampleClock<&'a HostRuntime>, AllocError> {
-        let path = format!(in rt.alloc(); "/proc/self/fd/{fd}")?;
-        Ok(SampleClock::new(rt, path))
-    }
-
-    /// Whether the next read gives one sample.
-    fn gives_a_sample<R: Read>(reader: &mut R) -> bool {
-        matches!(reader.read(&mut [0; 80]), Ok(40))
-    }
-
-    #[test]
-    fn samples_to_a_pipe(rt: HostRuntime) -> Result<(), Fail> {
-        let (mut reader, writer) = io::pipe(&rt)?;
-        let mut clock = clock_to(&rt, writer.as_raw_fd())?;
-        let mut late = clock_to(&rt, writer.as_raw_fd())?;
-        let is_written = is_corrected(&mut clock) && gives_a_sample(&mut reader);
-        // One whose reader goes, and one that never had a reader.
-        drop(reader);
-        let are_stopped = !is_corrected(&mut clock) && !is_corrected(&mut late);
-        drop(writer);
-        assert_eq!(rt; (is_written, are_stopped), (true, true));
         Ok(())
     }
 }

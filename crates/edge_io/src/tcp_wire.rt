@@ -373,50 +373,6 @@ mod tests {
         wire.read(&mut [0; 8]) == want && wire.write(b"a") == Put::Failed
     }
 
-    /// Whether a session reads what its client writes in two pieces. Then the client writes more that nobody reads.
-    fn answers_a_client<W: Wire, S: Read + Write>(wire: &mut W, client: &mut S) -> bool {
-        wire.next_session() == Opened::Session
-            && client.write(b"abc").is_ok()
-            && reads(wire, b"abc")
-            && client.write(b"de").is_ok()
-            && reads(wire, b"de")
-            && wire.write(b"answer") == Put::Done
-            && client.write(b"more").is_ok()
-    }
-
-    /// Whether the client has its answer and then the end, and no reset.
-    fn has_its_answer<S: Read>(client: &mut S) -> bool {
-        gives(client, b"answer") && gives(client, b"")
-    }
-
-    #[test]
-    fn accepted_sessions_on_loopback(rt: HostRuntime) -> Result<(), Fail> {
-        let mut wire = TcpWire::listen(&rt, 0)?;
-        let port = wire.port()?;
-        let mut first = TcpStream::connect(&rt, at(port))?;
-        let mut second = TcpStream::connect(&rt, at(port))?;
-        let is_closed = neither_reads_nor_writes(&mut wire, Take::End);
-        let is_first = answers_a_client(&mut wire, &mut first);
-        let is_second = answers_a_client(&mut wire, &mut second);
-        let is_taken = TcpWire::listen(&rt, port).is_err();
-        drop(wire);
-        // Though sessions were just closed on the port, it can be had again.
-        let is_free = TcpWire::listen(&rt, port).is_ok();
-        let are_answered = has_its_answer(&mut first) && has_its_answer(&mut second);
-        assert_eq!(rt;
-            [
-                is_closed,
-                is_first,
-                is_second,
-                is_taken,
-                is_free,
-                are_answered
-            ],
-            [true; 6]
-        );
-        Ok(())
-    }
-
     /// Whether the wire connects to a server, asks it and is answered.
     fn asks_a_server<W: Wire, L: OpenListener>(wire: &mut W, listener: &L) -> bool
     where
@@ -466,31 +422,6 @@ mod tests {
             (opened, wire.faults),
             ([Opened::Failed, Opened::NoMore], 1)
         );
-    }
-
-    /// Whether a write fails in time. The first piece to a peer that is gone is still sent, and is refused then.
-    fn refuses_a_write<W: Wire>(wire: &mut W) -> bool {
-        for _ in 0..1000 {
-            if wire.write(b"a") == Put::Failed {
-                return true;
-            }
-        }
-        false
-    }
-
-    #[test]
-    fn writes_to_a_peer_that_is_gone(rt: HostRuntime) -> Result<(), Fail> {
-        let mut wire = TcpWire::listen(&rt, 0)?;
-        let client = TcpStream::connect(&rt, at(wire.port()?))?;
-        let opened = wire.next_session();
-        drop(client);
-        let is_refused = refuses_a_write(&mut wire);
-        let is_closed = neither_reads_nor_writes(&mut wire, Take::Failed);
-        assert_eq!(rt;
-            (opened, is_refused, is_closed),
-            (Opened::Session, true, true)
-        );
-        Ok(())
     }
 
     /// Whether the session waits for 30 seconds.

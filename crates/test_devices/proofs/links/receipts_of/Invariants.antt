@@ -1,6 +1,6 @@
 use Rattle.std.proofs.Common.{All}
 use Rattle.edge_io.specs.LinkScript.{IsNoFailure}
-use Rattle.edge_io.proofs.tests.receipts_of.Given as goal
+use Rattle.test_devices.proofs.links.receipts_of.Given as goal
 
 -- no receipt so far is a failed receive
 abbrev pub invariant-loop-text : goal.invariant-loop-text

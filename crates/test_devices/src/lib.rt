@@ -1,0 +1,28 @@
+//! The objects in memory of `edge_io` as tables, and its adapters over readers and writers. Tests alone: nothing here is
+//! shipped.
+//!
+//! - `streams.rt`: sources and sinks, with their failing calls.
+//! - `clocks.rt`: clocks, and random words.
+//! - `links.rt`: links, and what they tell.
+//! - `wires.rt`: wires with their sessions.
+//! - `peers.rt`: readers and writers that signals cut short, and that break.
+//! - `sockets.rt`: links and wires of the machine, on loopback.
+//! - `machine.rt`: its files, random words and clocks.
+//!
+//! It stands on `edge_io` alone. What only the crate itself can see is tested there, beside its function.
+#![tactic(auto)]
+
+#[cfg(test)]
+mod clocks;
+#[cfg(test)]
+mod links;
+#[cfg(test)]
+mod machine;
+#[cfg(test)]
+mod peers;
+#[cfg(test)]
+mod sockets;
+#[cfg(test)]
+mod streams;
+#[cfg(test)]
+mod wires;
