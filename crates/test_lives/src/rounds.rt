@@ -204,14 +204,10 @@ const ROWS: &[Row] = &[
 ];
 
 /// The lines of nine requests: after eight without an answer the next partner is asked.
-const NINE: &str = "send n=1 to=10.0.0.2:123\n\
-send n=2 to=10.0.0.2:123\n\
-send n=3 to=10.0.0.2:123\n\
-send n=4 to=10.0.0.2:123\n\
-send n=5 to=10.0.0.2:123\n\
-send n=6 to=10.0.0.2:123\n\
-send n=7 to=10.0.0.2:123\n\
-send n=8 to=10.0.0.2:123\n\
+const NINE: &str = "send n=1 to=10.0.0.2:123\nsend n=2 to=10.0.0.2:123\n\
+send n=3 to=10.0.0.2:123\nsend n=4 to=10.0.0.2:123\n\
+send n=5 to=10.0.0.2:123\nsend n=6 to=10.0.0.2:123\n\
+send n=7 to=10.0.0.2:123\nsend n=8 to=10.0.0.2:123\n\
 send n=9 to=10.0.0.1:123\n";
 
 const SECOND: &str = "send n=2 to=10.0.0.2:123\n";
@@ -431,6 +427,35 @@ fn report_of(alloc: Global, lines: &[(u32, &'static str)]) -> Result<Vec<u8>, Al
     Ok(text)
 }
 
+/// What the call of a row answered, what the run came to, and the objects behind it.
+#[derive(Drop)]
+struct Called {
+    answer: Result<u32, Why>,
+    totals: LifeEnd,
+    objects: Objects,
+}
+
+fn call(alloc: Global, row: &Row) -> Result<Called, Fail> {
+    let mut objects = devices_of(alloc, row)?;
+    let mut run = start(alloc, &mut objects)?;
+    ask(row.before, &mut run, &mut objects)?;
+    let answer = answer_of(row, &mut run, &mut objects);
+    Ok(Called {
+        answer,
+        totals: run.totals(),
+        objects,
+    })
+}
+
+fn expect_answer(rt: &impl Abort, row: &Row, called: &Called) {
+    assert_eq!(rt;
+        (called.answer, called.totals),
+        (row.answer, totals_of(row.counts)),
+        "{}",
+        row.case
+    );
+}
+
 fn expect_devices(rt: &impl Abort, row: &Row, report: &[u8], objects: &Objects) {
     let sends = objects.link.sends().len();
     let taken = objects.link.calls().len().saturating_sub(sends);
@@ -444,17 +469,9 @@ fn expect_devices(rt: &impl Abort, row: &Row, report: &[u8], objects: &Objects) 
 
 fn expect_row(rt: &impl Abort, alloc: Global, row: &Row) -> Result<(), Fail> {
     let report = report_of(alloc, row.lines)?;
-    let mut objects = devices_of(alloc, row)?;
-    let mut run = start(alloc, &mut objects)?;
-    ask(row.before, &mut run, &mut objects)?;
-    let answer = answer_of(row, &mut run, &mut objects);
-    assert_eq!(rt;
-        (answer, run.totals()),
-        (row.answer, totals_of(row.counts)),
-        "{}",
-        row.case
-    );
-    expect_devices(rt, row, &report, &objects);
+    let called = call(alloc, row)?;
+    expect_answer(rt, row, &called);
+    expect_devices(rt, row, &report, &called.objects);
     Ok(())
 }
 
