@@ -1,0 +1,10 @@
+pub mod Bits
+pub mod Contexts
+pub mod Stubs
+pub mod Answers
+pub mod Serving
+pub mod Standing
+pub mod Steps
+pub mod Asking
+pub mod Replies
+pub mod Calling
