@@ -3,6 +3,7 @@ ghost use Rattle.std.specs.Prelude.{◌≤◌, length, All, IfOk};
 ghost use Rattle.base_specs.specs.Time.{IsReading};
 ghost use Rattle.edge_io.specs.LinkScript.{IsNoFailure};
 
+use crate::asserts::{holds, same};
 use edge_io::{
     Addr, Datagram, Link, Receipt, ScriptClock, ScriptEntropy, ScriptLink, ScriptSink, Tried,
 };
@@ -11,7 +12,6 @@ use partner_pick::parse_directory;
 use std::alloc::{AllocError, Global};
 use std::process::Abort;
 use std::test::Fail;
-use test_asserts::{holds, same};
 
 // The first moment of 2020, in ticks: the first reading of every run.
 const R0: i64 = 132_223_104_000_000_000;

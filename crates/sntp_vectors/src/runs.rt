@@ -3,13 +3,13 @@ ghost use Rattle.std.specs.Prelude.{All, IfOk};
 ghost use Rattle.base_specs.specs.Time.{IsReading};
 ghost use Rattle.edge_io.specs.LinkScript.{IsNoFailure};
 
+use crate::asserts::same;
 use dc_sign::{ServeEnd, ServeWhy, serve};
 use edge_io::{Addr, Datagram, Link, Put, Receipt, ScriptClock, ScriptLink, Tried};
 use key_book::Account;
 use std::alloc::{AllocError, Global};
 use std::process::Abort;
 use std::test::Fail;
-use test_asserts::same;
 
 // The first moment of 2020, in ticks, and a millisecond later.
 const RECEIVED: i64 = 132_223_104_000_000_000;

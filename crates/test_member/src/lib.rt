@@ -5,10 +5,11 @@
 //! two runs on one disk; and runs of 257 turns, each of which gets a datagram that is refused. `steps.rt` has a run whose
 //! clock is stepped.
 //!
-//! It stands on `w32tm_cmd`, on `test_scripts`, which makes the devices and has capture and report of that run, and on
-//! `test_asserts`, by which it compares.
+//! It stands on `w32tm_cmd`, and on `test_scripts`, which makes the devices and has capture and report of that run.
 #![tactic(auto)]
 
+#[cfg(test)]
+mod asserts;
 #[cfg(test)]
 mod runs;
 #[cfg(test)]

@@ -1,9 +1,9 @@
 //! Runs of `/member`.
+use crate::asserts::{holds, same};
 use edge_io::{Addr, Move, Put, Tried};
 use std::alloc::Global;
 use std::process::Abort;
 use std::test::Fail;
-use test_asserts::{holds, same};
 use test_scripts::{
     Came, Device, INTERVAL, NEW_YEAR, REALISTIC, Ran, SETTINGS, STEADY, Script, THIRD,
     realistic_capture, run,

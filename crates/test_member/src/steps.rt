@@ -1,7 +1,7 @@
 //! A run of `/member` whose clock is stepped.
+use crate::asserts::same;
 use edge_io::{Addr, Move};
 use std::test::Fail;
-use test_asserts::same;
 use test_scripts::{Came, INTERVAL, NEW_YEAR, SETTINGS, STEADY, Script, run};
 use w32tm_cmd::Status;
 

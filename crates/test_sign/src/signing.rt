@@ -1,10 +1,10 @@
 //! Runs of `/sign`.
+use crate::asserts::{holds, same};
 use dc_sign::Refusal;
 use edge_io::Reading;
 use std::alloc::Global;
 use std::process::Abort;
 use std::test::Fail;
-use test_asserts::{holds, same};
 use test_scripts::{Device, LATER, NEW_YEAR, REQUEST, Ran, STEADY, Script, run};
 use w32tm_cmd::Status;
 
