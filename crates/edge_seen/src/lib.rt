@@ -1,5 +1,5 @@
 //! What all devices of the program tell at a moment, with their counts of failed calls: one record, `Seen`, that the
-//! contracts of all crates above speak of. There is no code here.
+//! contracts of runs and commands speak of. There is no code here.
 //!
 //! A call that is handed some of the devices says its clause for whatever the others tell: two moments of it are the
 //! same `Seen`, with the fields of its own devices put in. Nobody but this crate and the one that gathers the devices

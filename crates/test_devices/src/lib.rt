@@ -9,7 +9,7 @@
 //! - `sockets.rt`: links and wires of the machine, on loopback.
 //! - `machine.rt`: its files, random words and clocks.
 //!
-//! It stands on `edge_io` alone. What only the crate itself can see is tested there, beside its function.
+//! It stands on `edge_io`, and on `base_specs` for readings. What only `edge_io` itself can see is tested there.
 #![tactic(auto)]
 
 #[cfg(test)]
