@@ -17,7 +17,7 @@ use Rattle.replay_run.specs.Totals.{AreTotals, is_refused}
 use Rattle.replay_run.specs.declared.end.ReplayEnd.{ReplayEnd}
 use Rattle.run_deeds.specs.Closing.{closing_by, closing_lines, link_line}
 use Rattle.run_deeds.specs.Deeds.{Ending, Whole, NoRecord, NoLine, IsWhole, cut_record, missing_in, reasons_by}
-use Rattle.run_deeds.specs.Devices.{LifeEndsBy}
+use Rattle.run_deeds.specs.Devices.{LifeEndsBy, faults_of}
 use Rattle.run_deeds.specs.Lives.{Reports, Totals}
 use Rattle.run_deeds.specs.Weaving.{Need, Start, Stood, Turns, WordFor, ReceiptNow, ReadingFor, Act, Weaves, none, acts, life, reads, draws, gets, quiet, lost, arrives, call_reads, call_draws, round_gets, round_quiet, round_lost, round_arrives}
 use Rattle.run_deeds.specs.declared.life_end.LifeEnd.{LifeEnd}
@@ -33,9 +33,8 @@ use Rattle.time_machine.specs.Machine.{moves_by, moves_of, posted_by, requests_o
 use Rattle.time_machine.specs.Report.{report_of, total_line}
 use Rattle.time_machine.specs.Told.{Told, has_sent, is_accepted}
 use Rattle.w32tm_cmd.specs.Again.{Records, ReplaysAgain, WritesSameLines}
-use Rattle.w32tm_cmd.specs.Member.{member_seen}
 use Rattle.w32tm_cmd.specs.Replay.{IsReplayFaultless}
-use Rattle.w32tm_cmd.specs.Seen.{Seen}
+use Rattle.edge_seen.specs.Seen.{Seen}
 use Rattle.w32tm_text.specs.declared.status.Status.{Status}
 use Rattle.w32tm_text.specs.declared.status.Status.TheVariants.{Done, NoMemory}
 
@@ -228,7 +227,7 @@ own_record before now old capture record_bytes told grew added =
 was_whole : (turns : ℕ) (entry exit : DiskTold) (before now : Seen) (capture : List ℕ) (run : Records turns entry exit before now capture) → IsWhole run.lived.lives.woven.ending
 was_whole turns entry exit before now capture run =
     let lived = run.lived in
-    let ends = subst (λ (w : Why). LifeEndsBy w lived.lives.woven.ending lived.lives.woven.need (member_seen before).faults (member_seen now).faults) lived.ended lived.lives.ended.ends in
+    let ends = subst (λ (w : Why). LifeEndsBy w lived.lives.woven.ending lived.lives.woven.need (faults_of before) (faults_of now)) lived.ended lived.lives.ended.ends in
     ends.0
 
 -- what was recorded are the records of its events

@@ -12,7 +12,8 @@ use Rattle.w32t_settings.specs.declared.settings.Settings.{Settings}
 use Rattle.w32t_settings.specs.declared.settings.SettingsFault.TheVariants as fault
 use Rattle.w32t_settings.proofs.Exact.{one_answer}
 use Rattle.w32tm_cmd.specs.Config.{Configures, StopsAtConfig, TouchesConfigAlone, IsBadConfigExact, status_of}
-use Rattle.w32tm_cmd.specs.Seen.{Seen, HasCause}
+use Rattle.edge_seen.specs.Seen.{Seen}
+use Rattle.w32tm_cmd.specs.Seen.{HasCause}
 use Rattle.w32tm_text.specs.declared.status.Status.{Status}
 use Rattle.w32tm_text.specs.declared.status.Status.TheVariants.{BadConfig, ReadFault, NoMemory}
 

@@ -6,9 +6,10 @@ use Rattle.member_run.proofs.Blocks.{blocks_in}
 use Rattle.member_run.proofs.Enough.{had_few, none_missing}
 use Rattle.member_run.proofs.Ordered.{followed_none}
 use Rattle.member_run.proofs.Turning.{whole_reserves}
-use Rattle.run_deeds.specs.Deeds.{missing_in}
-use Rattle.run_deeds.specs.Devices.{LifeEndsBy, NoneRose}
-use Rattle.run_deeds.specs.Lives.{KeptBy}
+use Rattle.run_deeds.specs.Deeds.{Ending, Whole, NoRecord, NoLine, missing_in}
+use Rattle.run_deeds.specs.Devices.{LifeEndsBy, NoneRose, faults_of, living}
+use Rattle.run_deeds.specs.Weaving.{Need}
+use Rattle.run_deeds.specs.Lives.{KeptBy, Lives}
 use Rattle.run_deeds.specs.declared.life_end.LifeEnd.{LifeEnd}
 use Rattle.run_deeds.specs.declared.life_end.Why.{Why}
 use Rattle.run_deeds.specs.declared.life_end.Why.TheVariants as why
@@ -16,15 +17,17 @@ use Rattle.slot_disk.specs.Told.{DiskTold}
 use Rattle.stamp_keep.specs.Image.{mark_of_image}
 use Rattle.stamp_keep.specs.Keep.{IsLoadable}
 use Rattle.stamp_keep.specs.Slots.{HasOtherVersion}
+use Rattle.time_machine.specs.declared.conf.Conf.{Conf}
 use Rattle.time_machine.specs.Machine.{told}
 use Rattle.w32t_settings.specs.declared.settings.Settings.{Settings}
 use Rattle.w32tm_cmd.specs.declared.outside.Outside.{Outside}
-use Rattle.w32tm_cmd.specs.Config.{StopsAtConfig}
-use Rattle.w32tm_cmd.specs.Member.{IsBadKeeperExact, IsMemberComplete, IsMemberFaultless, IsMemberDoneWithin, IsStampsSpentExact, LivesUntil, MemberPromise, RunsMember, member_seen}
+use Rattle.w32tm_cmd.specs.Config.{Configures, StopsAtConfig, after_settings}
+use Rattle.w32tm_cmd.specs.Member.{IsBadKeeperExact, IsMemberComplete, IsMemberFaultless, IsMemberDoneWithin, IsStampsSpentExact, LivesUntil, MemberPromise, RunsMember}
 use Rattle.w32tm_cmd.specs.Partners.{HasNoPartner}
-use Rattle.w32tm_cmd.specs.Seen.{Seen}
-use Rattle.w32tm_cmd.proofs.Configuring.{same_settings, settings_exact, stops_exact, stops_for_memory, stops_else}
-use Rattle.w32tm_text.specs.Conf.{HasNoCandidate}
+use Rattle.edge_seen.specs.Seen.{Seen}
+use Rattle.w32tm_cmd.specs.Seen.{FaultsHaveCauses, HasCause, NeverFalls}
+use Rattle.w32tm_cmd.proofs.Configuring.{rose, same_settings, settings_exact, stops_exact, stops_for_memory, stops_else}
+use Rattle.w32tm_text.specs.Conf.{HasNoCandidate, IsConfOf}
 use Rattle.w32tm_text.specs.declared.status.Status.{Status}
 use Rattle.w32tm_text.specs.declared.status.Status.TheVariants.{Done, WriteFault, DiskFault, BadKeeper, StampsSpent, ClockFault, EntropyFault, NoPartner}
 
@@ -46,10 +49,28 @@ disk_alone old new input link clock entropy out capture = λ i. record {
 
 -- ---- A life that was begun
 
+-- the life of the settings' member, which is one whatever the other devices tell
+abbrev pub lived : (turns : ℕ) (entry exit : DiskTold) (before now : Seen) (is : Why) (settings : Settings) (conf : Conf) (end : LifeEnd) → Configures before now settings → IsConfOf settings conf
+    → ((others : Seen) → Lives conf turns entry exit (living others before.link before.clock before.words before.capture before.written before.link_faults (faults_of before))
+    (living others now.link now.clock now.words now.capture now.written now.link_faults (faults_of now)) end)
+    → end.why ≡ is → now.left ≡ before.left → now.read_faults ≡ before.read_faults → LivesUntil turns entry exit before now is
+lived turns entry exit before now is settings conf end configured is_conf lives ended input no_read_fault = record {
+  settings = settings;
+  conf = conf;
+  end = end;
+  configured = configured;
+  is_conf = is_conf;
+  lives = subst (λ (s : Seen). Lives conf turns entry exit (after_settings before now) s end)
+      (λ i. record now { left = (sym input) i; read_faults = (sym no_read_fault) i }) (lives (after_settings before now));
+  ended = ended;
+  input = input;
+  no_read_fault = no_read_fault;
+}
+
 -- what is known of the settings' member and of its run
 pub record Judges (settings : Settings) (before now : Seen) (end : LifeEnd) : Type 0 where
   pub some : HasNoCandidate settings → ⊥
-  pub complete : NoneRose (member_seen before).faults (member_seen now).faults
+  pub complete : NoneRose (faults_of before) (faults_of now)
       → (end.why ≡ why.Done) ⊎ (end.why ≡ why.BadVersion) ⊎ (end.why ≡ why.StampsSpent)
 
 -- the answer of a life that ended so
@@ -71,7 +92,7 @@ runs_of turns entry exit before now why.ClockFault runs = runs
 runs_of turns entry exit before now why.EntropyFault runs = runs
 runs_of turns entry exit before now why.SinkFault runs = runs
 
-none_rose : (before now : Seen) → IsMemberFaultless before now → NoneRose (member_seen before).faults (member_seen now).faults
+none_rose : (before now : Seen) → IsMemberFaultless before now → NoneRose (faults_of before) (faults_of now)
 none_rose before now none = record { clock = none.clock; entropy = none.entropy; disk = none.disk; capture = none.capture; out = none.write }
 
 -- a told disk of this version is not refused
@@ -131,7 +152,7 @@ unfolding told
 had_room turns entry exit before now runs content some disk above =
     let l = runs.lives in
     let w = l.woven in
-    let ends = subst (λ (why : Why). LifeEndsBy why w.ending w.need (member_seen before).faults (member_seen now).faults) runs.ended l.ended.ends in
+    let ends = subst (λ (why : Why). LifeEndsBy why w.ending w.need (faults_of before) (faults_of now)) runs.ended l.ended.ends in
     let given : w.events ++ missing_in w.ending ≡ w.events = ap (λ (es : List Event). w.events ++ es) (none_missing w.ending ends.0) ∙ append-nil w.events in
     let P : List Event → Type 0 = λ (es : List Event). 1 ≤ blocks_in runs.conf es in
     let all : P (reverse w.events) = subst P (followed_none (w.events ++ missing_in w.ending) ∙ ap reverse given) (whole_reserves w.weaves some (l.ended.well runs.ended)) in
@@ -170,7 +191,7 @@ done_by never (inr (inr spent)) = absurd (never spent)
 enough_of : (turns : ℕ) (entry exit : DiskTold) (before now : Seen) (is : Why) → LivesUntil turns entry exit before now is → IsMemberComplete entry before now (answer_of is)
     → IsMemberDoneWithin turns entry before now (answer_of is)
 enough_of turns entry exit before now why.StampsSpent runs complete bytes content settings given says some disk loadable fits none =
-    absurd (had_few runs.conf turns entry exit (member_seen before) (member_seen now) runs.end content runs.lives runs.ended disk fits)
+    absurd (had_few runs.conf turns entry exit (after_settings before now) now runs.end content runs.lives runs.ended disk fits)
 enough_of turns entry exit before now why.Done runs complete bytes content settings given says some disk loadable fits none = inl refl
 enough_of turns entry exit before now why.DiskFault runs complete bytes content settings given says some disk loadable fits none =
     done_by (λ is. cc is) (complete bytes content settings given says some disk loadable none)
@@ -195,6 +216,24 @@ judged turns entry exit before now is runs j = record {
   stamps_spent = spent_of turns entry exit before now is runs (complete_of turns entry exit before now is runs j);
   enough = enough_of turns entry exit before now is runs (complete_of turns entry exit before now is runs j);
 }
+
+-- each fault is that of a call that failed
+cause_of : (is : Why) (ending : Ending) (need : Need) (before now : Seen) → LifeEndsBy is ending need (faults_of before) (faults_of now) → HasCause (answer_of is) before now
+cause_of why.Done ending need before now ends = tt
+cause_of why.DiskFault ending need before now (whole, needs, failed) = rose before.disk_faults now.disk_faults failed.0
+cause_of why.BadVersion ending need before now ends = tt
+cause_of why.StampsSpent ending need before now ends = tt
+cause_of why.ClockFault ending need before now (whole, needs, failed) = rose before.clock_faults now.clock_faults failed.0
+cause_of why.EntropyFault ending need before now (whole, needs, failed) = rose before.entropy_faults now.entropy_faults failed.0
+cause_of why.SinkFault Whole need before now (stops, failed) = absurd failed
+cause_of why.SinkFault (NoRecord event front) need before now (stops, failed) = inr (rose before.capture_faults now.capture_faults failed.0)
+cause_of why.SinkFault (NoLine deed front) need before now (stops, failed) = inl (rose before.write_faults now.write_faults failed.0)
+
+pub causes : (turns : ℕ) (entry exit : DiskTold) (before now : Seen) (is : Why) → LivesUntil turns entry exit before now is → NeverFalls before now → FaultsHaveCauses before now (answer_of is)
+causes turns entry exit before now is runs counts =
+    let w = runs.lives.woven in
+    let ends = subst (λ (why : Why). LifeEndsBy why w.ending w.need (faults_of before) (faults_of now)) runs.ended runs.lives.ended.ends in
+    record { counts = counts; cause = cause_of is w.ending w.need before now ends }
 
 -- ---- A life that was not begun
 

@@ -4,7 +4,7 @@ use Rattle.base_specs.specs.Counts.{Rose}
 use Rattle.capture_fmt.specs.declared.event.Event.{Event}
 use Rattle.capture_fmt.specs.Capture.{SpellsEvents, place_limit}
 use Rattle.replay_run.specs.Judged.{ReplaysTo}
-use Rattle.replay_run.specs.Replay.{ReportsAll, history_of}
+use Rattle.replay_run.specs.Replay.{Replays, ReportsAll, history_of, replaying}
 use Rattle.replay_run.specs.declared.end.ReplayEnd.{ReplayEnd}
 use Rattle.replay_run.specs.declared.end.ReplayWhy.{ReplayWhy}
 use Rattle.replay_run.specs.declared.end.ReplayWhy.TheVariants as why
@@ -15,14 +15,37 @@ use Rattle.w32t_settings.specs.Answer.{AreSettingsOf}
 use Rattle.w32t_settings.specs.declared.settings.Settings.{Settings}
 use Rattle.w32tm_cmd.specs.Partners.{HasNoPartner, IsNoPartnerExact}
 use Rattle.w32tm_cmd.specs.Replay.{ReplayPromise, ReplaysUntil, RunsReplay, IsBadCaptureExact, IsReplayComplete, IsReplayDoneOf, IsReplayWhole}
-use Rattle.w32tm_cmd.specs.Config.{IsBadConfigExact, StopsAtConfig}
-use Rattle.w32tm_cmd.specs.Seen.{Seen}
+use Rattle.w32tm_cmd.specs.Config.{Configures, IsBadConfigExact, StopsAtConfig, after_settings}
+use Rattle.edge_seen.specs.Seen.{Seen}
 use Rattle.w32tm_cmd.proofs.Configuring.{same_settings, settings_exact, stops_exact, stops_for_memory, stops_else}
 use Rattle.w32tm_text.specs.Conf.{HasNoCandidate, IsConfOf}
 use Rattle.w32tm_text.specs.declared.status.Status.{Status}
 use Rattle.w32tm_text.specs.declared.status.Status.TheVariants.{Done, BadCapture, ReadFault, WriteFault, NoPartner}
 
 -- ---- A replay that was begun
+
+-- the replay of the settings' member, which is the same whatever the other devices tell
+abbrev pub replayed : (before now : Seen) (why : ReplayWhy) (settings : Settings) (conf : Conf) (end : ReplayEnd) → Configures before now settings → IsConfOf settings conf
+    → ((others : Seen) → Replays conf (replaying others before.left before.read_faults before.written before.write_faults)
+    (replaying others now.left now.read_faults now.written now.write_faults) end)
+    → end.why ≡ why → now ≡ record before {
+      config = now.config;
+      config_faults = now.config_faults;
+      left = now.left;
+      read_faults = now.read_faults;
+      written = now.written;
+      write_faults = now.write_faults;
+    } → ReplaysUntil before now why
+replayed before now why settings conf end configured is_conf replays ended others = record {
+  settings = settings;
+  conf = conf;
+  end = end;
+  configured = configured;
+  is_conf = is_conf;
+  replays = subst (λ (s : Seen). Replays conf (after_settings before now) s end) (sym others) (replays (after_settings before now));
+  ended = ended;
+  others = others;
+}
 
 -- what is known of the settings' member and of its replay
 pub record Judges (settings : Settings) (conf : Conf) (before now : Seen) (end : ReplayEnd) : Type 0 where

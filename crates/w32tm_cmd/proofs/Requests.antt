@@ -11,7 +11,8 @@ use Rattle.dc_sign.specs.declared.outcome.Answer.TheVariants.{Signed, Plain}
 use Rattle.dc_sign.specs.Info.{IsLocalInfo}
 use Rattle.dc_sign.specs.Reply.{Answers}
 use Rattle.dc_sign.proofs.Replies.{replied, reply_some}
-use Rattle.w32tm_cmd.specs.Seen.{Seen, ReadsInput}
+use Rattle.edge_seen.specs.Seen.{Seen}
+use Rattle.w32tm_cmd.specs.Seen.{ReadsInput}
 use Rattle.w32tm_cmd.specs.Sign.{request_limit, Prepares}
 
 -- what fills a buffer is the input up to the buffer's length

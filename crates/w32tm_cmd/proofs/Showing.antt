@@ -4,7 +4,8 @@ use Rattle.base_specs.specs.Counts.{Fails, Rose}
 use Rattle.ms_auth.specs.Packet.{IsPacketLength}
 use Rattle.ms_auth.proofs.Uniqueness.{packet_length}
 use Rattle.dc_sign.specs.declared.outcome.Refusal.TheVariants.{BadLength}
-use Rattle.w32tm_cmd.specs.Seen.{Seen, HasNoFault}
+use Rattle.edge_seen.specs.Seen.{Seen}
+use Rattle.w32tm_cmd.specs.Seen.{HasNoFault}
 use Rattle.w32tm_cmd.specs.Show.{Shows, IsShowAnswer, ShowPromise}
 use Rattle.w32tm_text.specs.declared.status.Status.{Status}
 use Rattle.w32tm_text.specs.declared.status.Status.TheVariants.{Done, WriteFault, BadRequest}

@@ -8,7 +8,8 @@ use Rattle.key_book.specs.declared.account.Account.{Account}
 use Rattle.dc_sign.specs.declared.outcome.Refusal.{Refusal}
 use Rattle.dc_sign.specs.Reply.{refusal_of}
 use Rattle.dc_sign.proofs.Replies.{too_long}
-use Rattle.w32tm_cmd.specs.Seen.{Seen, ReadsInput, HasNoFault}
+use Rattle.edge_seen.specs.Seen.{Seen}
+use Rattle.w32tm_cmd.specs.Seen.{ReadsInput, HasNoFault}
 use Rattle.w32tm_cmd.specs.Sign.{request_limit, Signs, DecidesBy, IsSignAnswer, SignPromise}
 use Rattle.w32tm_text.specs.declared.status.Status.{Status}
 use Rattle.w32tm_text.specs.declared.status.Status.TheVariants.{Done, ReadFault, WriteFault, ClockFault, BadRequest}

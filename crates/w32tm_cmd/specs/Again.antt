@@ -10,7 +10,7 @@ use Rattle.w32t_settings.specs.declared.settings.Settings.{Settings}
 use Rattle.w32tm_text.specs.declared.status.Status.{Status}
 use Rattle.w32tm_cmd.specs.Member.{LivesUntil}
 use Rattle.w32tm_cmd.specs.Replay.{ReplayPromise}
-use Rattle.w32tm_cmd.specs.Seen.{Seen}
+use Rattle.edge_seen.specs.Seen.{Seen}
 
 -- in a run that ended well this capture was recorded, and its sink tells
 pub record Records (turns : ℕ) (entry exit : DiskTold) (before now : Seen) (capture : List ℕ) : Type 0 where

@@ -8,15 +8,19 @@ use Rattle.w32t_settings.specs.declared.settings.Settings.{Settings}
 use Rattle.w32t_settings.specs.declared.settings.SettingsFault.TheVariants as settings
 use Rattle.w32tm_text.specs.declared.status.Status.{Status}
 use Rattle.w32tm_text.specs.declared.status.Status.TheVariants.{BadConfig, ReadFault, NoMemory}
-use Rattle.w32tm_cmd.specs.Seen.{Seen}
+use Rattle.edge_seen.specs.Seen.{Seen}
 
 -- the settings were read, and these are they
 abbrev pub Configures : Seen → Seen → Settings → Type 0
 Configures before now settings = ReadsSettings before.config now.config before.config_faults now.config_faults settings
 
+-- the devices when the settings were read, and nothing else was done
+abbrev pub after_settings : Seen → Seen → Seen
+after_settings before now = record before { config = now.config; config_faults = now.config_faults }
+
 -- no device but the settings' was touched
 abbrev pub TouchesConfigAlone : Seen → Seen → Type 0
-TouchesConfigAlone before now = now ≡ record before { config = now.config; config_faults = now.config_faults }
+TouchesConfigAlone before now = now ≡ after_settings before now
 
 -- what each answer says of a command that got no settings
 abbrev pub StopsAtConfig : Seen → Seen → Status → Type 0

@@ -2,7 +2,6 @@
 use Rattle.std.specs.Prelude.{◌≡◌, ◌⊎◌, ℕ, List, take, Some}
 use Rattle.base_specs.specs.Counts.{Fails, Rose}
 use Rattle.base_specs.specs.Told.{Added}
-use Rattle.dc_sign.specs.Serving as serving
 use Rattle.dc_sign.specs.Serving.{Serves}
 use Rattle.dc_sign.specs.declared.tally.ServeEnd.{ServeEnd}
 use Rattle.dc_sign.specs.declared.tally.ServeWhy.{ServeWhy}
@@ -13,20 +12,21 @@ use Rattle.w32t_settings.specs.declared.settings.Settings.{Settings}
 use Rattle.w32tm_text.specs.Dc.{dc_lines}
 use Rattle.w32tm_text.specs.declared.status.Status.{Status}
 use Rattle.w32tm_text.specs.declared.status.Status.TheVariants.{Done, WriteFault, ClockFault, NoMemory}
-use Rattle.w32tm_cmd.specs.Seen.{Seen, IsOutIdle}
+use Rattle.edge_seen.specs.Seen.{Seen}
+use Rattle.w32tm_cmd.specs.Seen.{IsOutIdle}
 use Rattle.settings_source.specs.Reading.{text_limit}
-use Rattle.w32tm_cmd.specs.Config.{Configures, StopsAtConfig, IsBadConfigExact}
+use Rattle.w32tm_cmd.specs.Config.{Configures, after_settings, StopsAtConfig, IsBadConfigExact}
 
--- what the controller's devices tell
-abbrev pub controller_seen : Seen → serving.Seen
-controller_seen s = serving.seen s.link s.link_faults s.clock s.clock_faults
+-- the devices when nothing was written yet, and all else was done
+abbrev pub before_lines : Seen → Seen → Seen
+before_lines before now = record now { written = before.written; write_faults = before.write_faults }
 
 -- The settings were read, and a controller with their accounts served, until it ended so. The input was not read, and
 -- no word was drawn.
 pub record ServesUntil (turns : ℕ) (before now : Seen) (why : ServeWhy) (end : ServeEnd) : Type 0 where
   pub settings : Settings
   pub configured : Configures before now settings
-  pub serves : Serves settings.book turns (controller_seen before) (controller_seen now) end
+  pub serves : Serves settings.book turns (after_settings before now) (before_lines before now) end
   pub ended : end.why ≡ why
   pub others : now ≡ record before {
     config = now.config;

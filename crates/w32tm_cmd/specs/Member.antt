@@ -1,7 +1,6 @@
 -- The command `/member`: a member keeps its clock by its domain, for so many turns.
 use Rattle.std.specs.Prelude.{◌≡◌, ◌⊎◌, ◌+◌, ◌<◌, ◌≤◌, ℕ, List, take, Some}
 use Rattle.base_specs.specs.Counts.{Rose}
-use Rattle.run_deeds.specs.Devices as run
 use Rattle.run_deeds.specs.Lives.{Lives}
 use Rattle.run_deeds.specs.declared.life_end.LifeEnd.{LifeEnd}
 use Rattle.run_deeds.specs.declared.life_end.Why.{Why}
@@ -17,14 +16,9 @@ use Rattle.w32t_settings.specs.declared.settings.Settings.{Settings}
 use Rattle.w32tm_text.specs.Conf.{HasCandidate, IsConfOf}
 use Rattle.w32tm_text.specs.declared.status.Status.{Status}
 use Rattle.w32tm_text.specs.declared.status.Status.TheVariants.{Done, ReadFault, WriteFault, DiskFault, BadKeeper, StampsSpent, ClockFault, EntropyFault, NoPartner, NoMemory}
-use Rattle.w32tm_cmd.specs.Seen.{Seen}
-use Rattle.w32tm_cmd.specs.Config.{Configures, StopsAtConfig, IsBadConfigExact}
+use Rattle.edge_seen.specs.Seen.{Seen}
+use Rattle.w32tm_cmd.specs.Config.{Configures, after_settings, StopsAtConfig, IsBadConfigExact}
 use Rattle.w32tm_cmd.specs.Partners.{HasNoPartner, IsNoPartnerExact}
-
--- what the devices of the run tell, the disk aside
-abbrev pub member_seen : Seen → run.Seen
-member_seen s = run.seen s.link s.clock s.words s.capture s.written s.link_faults
-    (run.faults s.clock_faults s.entropy_faults s.disk_faults s.capture_faults s.write_faults)
 
 -- The settings were read, and their member lived so many turns, until its run ended so. Its requests, corrections, capture
 -- and report are the time machine's over the events that were woven of what was given (`Lives`). The input was not read.
@@ -34,7 +28,7 @@ pub record LivesUntil (turns : ℕ) (entry exit : DiskTold) (before now : Seen) 
   pub end : LifeEnd
   pub configured : Configures before now settings
   pub is_conf : IsConfOf settings conf
-  pub lives : Lives conf turns entry exit (member_seen before) (member_seen now) end
+  pub lives : Lives conf turns entry exit (after_settings before now) now end
   pub ended : end.why ≡ why
   pub input : now.left ≡ before.left
   pub no_read_fault : now.read_faults ≡ before.read_faults

@@ -1,8 +1,6 @@
 -- The command `/monitor`: each computer of the settings is asked how far its clock is.
 use Rattle.std.specs.Prelude.{◌≡◌, ◌⊎◌, ℕ, List, take, Some}
 use Rattle.base_specs.specs.Counts.{Rose}
-use Rattle.monitor_run.specs.Asking.{devices}
-use Rattle.monitor_run.specs.Monitoring as monitoring
 use Rattle.monitor_run.specs.Monitoring.{Monitors}
 use Rattle.monitor_run.specs.declared.why.MonitorWhy.{MonitorWhy}
 use Rattle.monitor_run.specs.declared.why.MonitorWhy.TheVariants as why
@@ -11,20 +9,15 @@ use Rattle.w32t_settings.specs.Answer.{AreSettingsOf}
 use Rattle.w32t_settings.specs.declared.settings.Settings.{Settings}
 use Rattle.w32tm_text.specs.declared.status.Status.{Status}
 use Rattle.w32tm_text.specs.declared.status.Status.TheVariants.{Done, WriteFault, ClockFault, EntropyFault, NoMemory}
-use Rattle.w32tm_cmd.specs.Seen.{Seen}
-use Rattle.w32tm_cmd.specs.Config.{Configures, StopsAtConfig, IsBadConfigExact}
-
--- what the devices of the run tell
-abbrev pub monitor_seen : Seen → monitoring.Seen
-monitor_seen s = monitoring.seen (devices s.link s.link_faults s.clock s.clock_faults s.words s.entropy_faults)
-    s.written s.write_faults
+use Rattle.edge_seen.specs.Seen.{Seen}
+use Rattle.w32tm_cmd.specs.Config.{Configures, after_settings, StopsAtConfig, IsBadConfigExact}
 
 -- The settings were read, and the computers of their directory were asked in its order, until the run ended so. The
 -- input was not read, and nothing was recorded or reserved.
 pub record MonitorsUntil (before now : Seen) (why : MonitorWhy) : Type 0 where
   pub settings : Settings
   pub configured : Configures before now settings
-  pub monitors : Monitors settings.directory (monitor_seen before) (monitor_seen now) why
+  pub monitors : Monitors settings.directory (after_settings before now) now why
   pub others : now ≡ record before {
     config = now.config;
     config_faults = now.config_faults;

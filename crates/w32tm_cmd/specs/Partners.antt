@@ -6,7 +6,7 @@ use Rattle.w32t_settings.specs.declared.settings.Settings.{Settings}
 use Rattle.w32tm_text.specs.Conf.{HasNoCandidate}
 use Rattle.w32tm_text.specs.declared.status.Status.{Status}
 use Rattle.w32tm_text.specs.declared.status.Status.TheVariants.{ReadFault, NoPartner, NoMemory}
-use Rattle.w32tm_cmd.specs.Seen.{Seen}
+use Rattle.edge_seen.specs.Seen.{Seen}
 use Rattle.w32tm_cmd.specs.Config.{Configures, TouchesConfigAlone}
 
 -- the settings were read, and none of their computers is a candidate for their role; no other device was touched

@@ -7,7 +7,6 @@ use Rattle.time_machine.specs.declared.conf.Conf.{Conf}
 use Rattle.time_machine.specs.Growing.{Grows}
 use Rattle.replay_run.specs.Judged.{ReplaysTo}
 use Rattle.replay_run.specs.Replay.{Replays, ReportsAll, history_of}
-use Rattle.replay_run.specs.Seen as replaying
 use Rattle.replay_run.specs.declared.end.ReplayEnd.{ReplayEnd}
 use Rattle.replay_run.specs.declared.end.ReplayWhy.{ReplayWhy}
 use Rattle.replay_run.specs.declared.end.ReplayWhy.TheVariants as why
@@ -17,13 +16,9 @@ use Rattle.w32t_settings.specs.declared.settings.Settings.{Settings}
 use Rattle.w32tm_text.specs.Conf.{HasCandidate, IsConfOf}
 use Rattle.w32tm_text.specs.declared.status.Status.{Status}
 use Rattle.w32tm_text.specs.declared.status.Status.TheVariants.{Done, BadCapture, ReadFault, WriteFault, NoPartner, NoMemory}
-use Rattle.w32tm_cmd.specs.Seen.{Seen}
-use Rattle.w32tm_cmd.specs.Config.{Configures, StopsAtConfig, IsBadConfigExact}
+use Rattle.edge_seen.specs.Seen.{Seen}
+use Rattle.w32tm_cmd.specs.Config.{Configures, after_settings, StopsAtConfig, IsBadConfigExact}
 use Rattle.w32tm_cmd.specs.Partners.{HasNoPartner, IsNoPartnerExact}
-
--- what the capture and the output tell
-abbrev pub replay_seen : Seen → replaying.Seen
-replay_seen s = replaying.seen s.left s.read_faults s.written s.write_faults
 
 -- The settings were read, and a new member of theirs was stepped through the capture, until the replay ended so. No
 -- datagram was sent or taken, the clock was neither read nor moved, and no word was drawn.
@@ -33,7 +28,7 @@ pub record ReplaysUntil (before now : Seen) (why : ReplayWhy) : Type 0 where
   pub end : ReplayEnd
   pub configured : Configures before now settings
   pub is_conf : IsConfOf settings conf
-  pub replays : Replays conf (replay_seen before) (replay_seen now) end
+  pub replays : Replays conf (after_settings before now) now end
   pub ended : end.why ≡ why
   pub others : now ≡ record before {
     config = now.config;

@@ -1,30 +1,10 @@
--- What the devices tell at a moment, and what a run did with each of them.
-use Rattle.std.specs.Prelude.{◌≡◌, ◌⊎◌, ◌<◌, ◌≤◌, ℕ, List, length, Option, ⊤}
+-- What a run did with each device, by what they tell before and after.
+use Rattle.std.specs.Prelude.{◌≡◌, ◌⊎◌, ◌<◌, ◌≤◌, ℕ, List, length, ⊤}
 use Rattle.base_specs.specs.Counts.{Rose}
 use Rattle.base_specs.specs.Told.{Took, IsUsedUp}
-use Rattle.edge_traits.specs.Clock.{ClockCall}
-use Rattle.edge_traits.specs.Link.{LinkCall}
+use Rattle.edge_seen.specs.Seen.{Seen}
 use Rattle.w32tm_text.specs.declared.status.Status.{Status}
 use Rattle.w32tm_text.specs.declared.status.Status.TheVariants.{ReadFault, WriteFault, DiskFault, ClockFault, EntropyFault}
-
--- the bytes left of the settings and of the input, the bytes written to the output and to the capture, the calls of the
--- link and of the clock in their order, the random words given, and the counts of failed calls
-pub record Seen : Type 0 where
-  pub config : Option (List ℕ)
-  pub config_faults : ℕ
-  pub left : Option (List ℕ)
-  pub read_faults : ℕ
-  pub written : Option (List ℕ)
-  pub write_faults : ℕ
-  pub capture : Option (List ℕ)
-  pub capture_faults : ℕ
-  pub link : Option (List LinkCall)
-  pub link_faults : ℕ
-  pub clock : Option (List ClockCall)
-  pub clock_faults : ℕ
-  pub disk_faults : ℕ
-  pub words : Option (List ℕ)
-  pub entropy_faults : ℕ
 
 -- these bytes were read: all there were, or as many as the limit
 pub record ReadsInput (limit : ℕ) (before now : Seen) (input : List ℕ) : Type 0 where

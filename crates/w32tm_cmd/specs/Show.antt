@@ -10,7 +10,8 @@ use Rattle.line_text.specs.Text.{joined, BreaksOff}
 use Rattle.w32tm_text.specs.Show.{show_lines}
 use Rattle.w32tm_text.specs.declared.status.Status.{Status}
 use Rattle.w32tm_text.specs.declared.status.Status.TheVariants.{Done, WriteFault, BadRequest}
-use Rattle.w32tm_cmd.specs.Seen.{Seen, HasNoFault}
+use Rattle.edge_seen.specs.Seen.{Seen}
+use Rattle.w32tm_cmd.specs.Seen.{HasNoFault}
 
 -- the lines of the message that the bytes spell were written
 pub record WritesMessage (bytes : List ℕ) (before now : Seen) : Type 0 where

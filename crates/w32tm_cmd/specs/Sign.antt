@@ -11,7 +11,8 @@ use Rattle.dc_sign.specs.Reply.{refusal_of, IsReplyOf}
 use Rattle.dc_sign.specs.Info.{IsLocalInfo}
 use Rattle.w32tm_text.specs.declared.status.Status.{Status}
 use Rattle.w32tm_text.specs.declared.status.Status.TheVariants.{Done, ReadFault, WriteFault, ClockFault, BadRequest}
-use Rattle.w32tm_cmd.specs.Seen.{Seen, ReadsInput, IsOutIdle, IsClockIdle, HasNoFault}
+use Rattle.edge_seen.specs.Seen.{Seen}
+use Rattle.w32tm_cmd.specs.Seen.{ReadsInput, IsOutIdle, IsClockIdle, HasNoFault}
 
 -- the most bytes that are read of a request, one more than a datagram holds
 abbrev pub request_limit : ℕ

@@ -3,7 +3,7 @@ ghost use Rattle.std.specs.Prelude.{◌≡◌, ◌⊎◌, ℕ, List};
 ghost use Rattle.w32tm_text.specs.declared.status.Status.{Status};
 ghost use Rattle.w32tm_cmd.specs.Again.{Records, ReplaysAgain, WritesSameLines};
 ghost use Rattle.w32tm_cmd.specs.Replay.{IsReplayFaultless};
-ghost use Rattle.w32tm_cmd.specs.Seen.{Seen};
+ghost use Rattle.edge_seen.specs.Seen.{Seen};
 
 use slot_disk::Disk;
 

@@ -13,7 +13,7 @@
 //!
 //! Begin with [`w32tm`] in `run.rt`; each command has a file of its own, as `sign.rt`. Runs of it over objects in memory are
 //! in the crates over `test_scripts`, one for each command. The definitions in `specs/`, in the order to read them:
-//! `Seen.antt` (what the devices tell), `Sign.antt`, `Show.antt`, `Dc.antt`, `Member.antt`, `Monitor.antt` and `Replay.antt`
+//! `Seen.antt` (what each device did), `Sign.antt`, `Show.antt`, `Dc.antt`, `Member.antt`, `Monitor.antt` and `Replay.antt`
 //! (what each command does), `Config.antt` and `Partners.antt` (how one ends that gets no settings, or settings without a
 //! partner), `Touching.antt` (which devices each answer leaves as they were), `Writing.antt` (what is written line by line)
 //! and `Again.antt` (of the law). The grammar of the words and the lines that are printed are in `w32tm_text/specs`.

@@ -27,7 +27,7 @@ pub struct Outside<S: Source, O: Sink, L: Link, C: Clock, D: Disk, E: Entropy> {
 /// devices through this alone, so each device is told of under a name of its own.
 pub trait Tells {
     ghost use Rattle.slot_disk.specs.Told.{DiskTold};
-    ghost use Rattle.w32tm_cmd.specs.Seen.{Seen};
+    ghost use Rattle.edge_seen.specs.Seen.{Seen};
 
     /// What is told at a moment, by all but the disk.
     ghost seen: { Self → Seen };

@@ -1,6 +1,7 @@
 use Rattle.std.proofs.Common.{refl, rules}
+use Rattle.dc_sign.specs.declared.tally.ServeWhy.TheVariants as why
 use Rattle.w32tm_cmd.proofs.Configuring.{stops, stops_cause}
-use Rattle.w32tm_cmd.proofs.Controlling.{promises, stopped}
+use Rattle.w32tm_cmd.proofs.Controlling.{promises, served, stopped}
 use Rattle.w32tm_cmd.proofs.dc.serve_requests.Goals as goal
 
 -- no settings
@@ -18,13 +19,7 @@ returns-in-Err-clause-causes g c = record {
 pub returns-in-ClockFault-clause-dc : goal.returns-in-ClockFault-clause-dc
 returns-in-ClockFault-clause-dc g c = promises c.args.turns _ _ _ (record {
   end = c.serve-end.result;
-  served = record {
-    settings = c.in-Ok.settings;
-    configured = c.in-Ok.ensures.reads;
-    serves = c.serve-end.ensures.serves;
-    ended = c.in-ClockFault.is;
-    others = refl;
-  };
+  served = served c.args.turns _ _ why.ClockFault c.serve-end.result c.in-Ok.settings c.in-Ok.ensures.reads c.serve-end.ensures.serves c.in-ClockFault.is refl;
   out = record { bytes = refl; no_fault = refl };
 }) (λ is. c.serve-end.ensures.cause c.in-ClockFault.is)
 
@@ -32,13 +27,7 @@ returns-in-ClockFault-clause-dc g c = promises c.args.turns _ _ _ (record {
 pub returns-in-Done-write_lines-clause-dc : goal.returns-in-Done-write_lines-clause-dc
 returns-in-Done-write_lines-clause-dc g c = promises c.args.turns _ _ _ (record {
   end = c.serve-end.result;
-  served = record {
-    settings = c.in-Ok.settings;
-    configured = c.in-Ok.ensures.reads;
-    serves = c.serve-end.ensures.serves;
-    ended = c.in-Done.is;
-    others = refl;
-  };
+  served = served c.args.turns _ _ why.Done c.serve-end.result c.in-Ok.settings c.in-Ok.ensures.reads c.serve-end.ensures.serves c.in-Done.is refl;
   closed = rw c.dc_lines.ensures.lines at c.in-Done-write_lines.ensures.bytes;
   no_fault = c.in-Done-write_lines.ensures.cause;
 }) (λ is. cc is)
@@ -50,13 +39,7 @@ returns-clause-dc g c =
     promises c.args.turns _ _ _ (record {
       end = c.serve-end.result;
       text = breaks.0;
-      served = record {
-        settings = c.in-Ok.settings;
-        configured = c.in-Ok.ensures.reads;
-        serves = c.serve-end.ensures.serves;
-        ended = c.in-Done.is;
-        others = refl;
-      };
+      served = served c.args.turns _ _ why.Done c.serve-end.result c.in-Ok.settings c.in-Ok.ensures.reads c.serve-end.ensures.serves c.in-Done.is refl;
       breaks_off = breaks.1;
       written = breaks.2;
       cause = c.in-Failed.ensures.cause;

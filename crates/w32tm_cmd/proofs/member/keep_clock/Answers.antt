@@ -1,7 +1,7 @@
 use Rattle.std.proofs.Common.{refl, rules}
 use Rattle.run_deeds.specs.declared.life_end.Why.TheVariants as why
 use Rattle.w32tm_cmd.proofs.Configuring.{stops, stops_cause}
-use Rattle.w32tm_cmd.proofs.Living.{disk_alone, judged, partnerless, stopped}
+use Rattle.w32tm_cmd.proofs.Living.{causes, disk_alone, judged, lived, partnerless, stopped}
 use Rattle.w32tm_cmd.proofs.member.keep_clock.Goals as goal
 
 -- no settings
@@ -28,119 +28,84 @@ returns-in-Err-NoPartner-clause-member g c =
 
 -- each end of the run
 pub returns-in-Done-clause-member : goal.returns-in-Done-clause-member
-returns-in-Done-clause-member g c = judged c.args.turns _ _ _ _ why.Done (record {
-  settings = c.in-Ok.settings;
-  conf = c.in-Ok-conf_of.conf;
-  end = c.live-end.result;
-  configured = c.in-Ok.ensures.reads;
-  is_conf = c.in-Ok-conf_of.ensures.answer;
-  lives = c.live-end.ensures.lives;
-  ended = c.in-Done.is;
-  input = refl;
-  no_read_fault = refl;
-}) (record {
-  some = λ none. let wrong = c.in-Ok-conf_of.ensures.no_partner.1 none in cc wrong;
-  complete = c.live-end.ensures.complete;
-})
+returns-in-Done-clause-member g c = judged c.args.turns _ _ _ _ why.Done
+    (lived c.args.turns _ _ _ _ why.Done c.in-Ok.settings c.in-Ok-conf_of.conf c.live-end.result c.in-Ok.ensures.reads c.in-Ok-conf_of.ensures.answer c.live-end.ensures.lives c.in-Done.is refl refl)
+    (record {
+      some = λ none. let wrong = c.in-Ok-conf_of.ensures.no_partner.1 none in cc wrong;
+      complete = c.live-end.ensures.complete;
+    })
 
 pub returns-in-DiskFault-clause-member : goal.returns-in-DiskFault-clause-member
-returns-in-DiskFault-clause-member g c = judged c.args.turns _ _ _ _ why.DiskFault (record {
-  settings = c.in-Ok.settings;
-  conf = c.in-Ok-conf_of.conf;
-  end = c.live-end.result;
-  configured = c.in-Ok.ensures.reads;
-  is_conf = c.in-Ok-conf_of.ensures.answer;
-  lives = c.live-end.ensures.lives;
-  ended = c.in-DiskFault.is;
-  input = refl;
-  no_read_fault = refl;
-}) (record {
-  some = λ none. let wrong = c.in-Ok-conf_of.ensures.no_partner.1 none in cc wrong;
-  complete = c.live-end.ensures.complete;
-})
+returns-in-DiskFault-clause-member g c = judged c.args.turns _ _ _ _ why.DiskFault
+    (lived c.args.turns _ _ _ _ why.DiskFault c.in-Ok.settings c.in-Ok-conf_of.conf c.live-end.result c.in-Ok.ensures.reads c.in-Ok-conf_of.ensures.answer c.live-end.ensures.lives c.in-DiskFault.is refl refl)
+    (record {
+      some = λ none. let wrong = c.in-Ok-conf_of.ensures.no_partner.1 none in cc wrong;
+      complete = c.live-end.ensures.complete;
+    })
 
 pub returns-in-BadVersion-clause-member : goal.returns-in-BadVersion-clause-member
-returns-in-BadVersion-clause-member g c = judged c.args.turns _ _ _ _ why.BadVersion (record {
-  settings = c.in-Ok.settings;
-  conf = c.in-Ok-conf_of.conf;
-  end = c.live-end.result;
-  configured = c.in-Ok.ensures.reads;
-  is_conf = c.in-Ok-conf_of.ensures.answer;
-  lives = c.live-end.ensures.lives;
-  ended = c.in-BadVersion.is;
-  input = refl;
-  no_read_fault = refl;
-}) (record {
-  some = λ none. let wrong = c.in-Ok-conf_of.ensures.no_partner.1 none in cc wrong;
-  complete = c.live-end.ensures.complete;
-})
+returns-in-BadVersion-clause-member g c = judged c.args.turns _ _ _ _ why.BadVersion
+    (lived c.args.turns _ _ _ _ why.BadVersion c.in-Ok.settings c.in-Ok-conf_of.conf c.live-end.result c.in-Ok.ensures.reads c.in-Ok-conf_of.ensures.answer c.live-end.ensures.lives c.in-BadVersion.is refl refl)
+    (record {
+      some = λ none. let wrong = c.in-Ok-conf_of.ensures.no_partner.1 none in cc wrong;
+      complete = c.live-end.ensures.complete;
+    })
 
 pub returns-in-StampsSpent-clause-member : goal.returns-in-StampsSpent-clause-member
-returns-in-StampsSpent-clause-member g c = judged c.args.turns _ _ _ _ why.StampsSpent (record {
-  settings = c.in-Ok.settings;
-  conf = c.in-Ok-conf_of.conf;
-  end = c.live-end.result;
-  configured = c.in-Ok.ensures.reads;
-  is_conf = c.in-Ok-conf_of.ensures.answer;
-  lives = c.live-end.ensures.lives;
-  ended = c.in-StampsSpent.is;
-  input = refl;
-  no_read_fault = refl;
-}) (record {
-  some = λ none. let wrong = c.in-Ok-conf_of.ensures.no_partner.1 none in cc wrong;
-  complete = c.live-end.ensures.complete;
-})
+returns-in-StampsSpent-clause-member g c = judged c.args.turns _ _ _ _ why.StampsSpent
+    (lived c.args.turns _ _ _ _ why.StampsSpent c.in-Ok.settings c.in-Ok-conf_of.conf c.live-end.result c.in-Ok.ensures.reads c.in-Ok-conf_of.ensures.answer c.live-end.ensures.lives c.in-StampsSpent.is refl refl)
+    (record {
+      some = λ none. let wrong = c.in-Ok-conf_of.ensures.no_partner.1 none in cc wrong;
+      complete = c.live-end.ensures.complete;
+    })
 
 pub returns-in-ClockFault-clause-member : goal.returns-in-ClockFault-clause-member
-returns-in-ClockFault-clause-member g c = judged c.args.turns _ _ _ _ why.ClockFault (record {
-  settings = c.in-Ok.settings;
-  conf = c.in-Ok-conf_of.conf;
-  end = c.live-end.result;
-  configured = c.in-Ok.ensures.reads;
-  is_conf = c.in-Ok-conf_of.ensures.answer;
-  lives = c.live-end.ensures.lives;
-  ended = c.in-ClockFault.is;
-  input = refl;
-  no_read_fault = refl;
-}) (record {
-  some = λ none. let wrong = c.in-Ok-conf_of.ensures.no_partner.1 none in cc wrong;
-  complete = c.live-end.ensures.complete;
-})
+returns-in-ClockFault-clause-member g c = judged c.args.turns _ _ _ _ why.ClockFault
+    (lived c.args.turns _ _ _ _ why.ClockFault c.in-Ok.settings c.in-Ok-conf_of.conf c.live-end.result c.in-Ok.ensures.reads c.in-Ok-conf_of.ensures.answer c.live-end.ensures.lives c.in-ClockFault.is refl refl)
+    (record {
+      some = λ none. let wrong = c.in-Ok-conf_of.ensures.no_partner.1 none in cc wrong;
+      complete = c.live-end.ensures.complete;
+    })
 
 pub returns-in-EntropyFault-clause-member : goal.returns-in-EntropyFault-clause-member
-returns-in-EntropyFault-clause-member g c = judged c.args.turns _ _ _ _ why.EntropyFault (record {
-  settings = c.in-Ok.settings;
-  conf = c.in-Ok-conf_of.conf;
-  end = c.live-end.result;
-  configured = c.in-Ok.ensures.reads;
-  is_conf = c.in-Ok-conf_of.ensures.answer;
-  lives = c.live-end.ensures.lives;
-  ended = c.in-EntropyFault.is;
-  input = refl;
-  no_read_fault = refl;
-}) (record {
-  some = λ none. let wrong = c.in-Ok-conf_of.ensures.no_partner.1 none in cc wrong;
-  complete = c.live-end.ensures.complete;
-})
+returns-in-EntropyFault-clause-member g c = judged c.args.turns _ _ _ _ why.EntropyFault
+    (lived c.args.turns _ _ _ _ why.EntropyFault c.in-Ok.settings c.in-Ok-conf_of.conf c.live-end.result c.in-Ok.ensures.reads c.in-Ok-conf_of.ensures.answer c.live-end.ensures.lives c.in-EntropyFault.is refl refl)
+    (record {
+      some = λ none. let wrong = c.in-Ok-conf_of.ensures.no_partner.1 none in cc wrong;
+      complete = c.live-end.ensures.complete;
+    })
 
 pub returns-clause-member : goal.returns-clause-member
-returns-clause-member g c = judged c.args.turns _ _ _ _ why.SinkFault (record {
-  settings = c.in-Ok.settings;
-  conf = c.in-Ok-conf_of.conf;
-  end = c.live-end.result;
-  configured = c.in-Ok.ensures.reads;
-  is_conf = c.in-Ok-conf_of.ensures.answer;
-  lives = c.live-end.ensures.lives;
-  ended = c.in-SinkFault.is;
-  input = refl;
-  no_read_fault = refl;
-}) (record {
-  some = λ none. let wrong = c.in-Ok-conf_of.ensures.no_partner.1 none in cc wrong;
-  complete = c.live-end.ensures.complete;
-})
+returns-clause-member g c = judged c.args.turns _ _ _ _ why.SinkFault
+    (lived c.args.turns _ _ _ _ why.SinkFault c.in-Ok.settings c.in-Ok-conf_of.conf c.live-end.result c.in-Ok.ensures.reads c.in-Ok-conf_of.ensures.answer c.live-end.ensures.lives c.in-SinkFault.is refl refl)
+    (record {
+      some = λ none. let wrong = c.in-Ok-conf_of.ensures.no_partner.1 none in cc wrong;
+      complete = c.live-end.ensures.complete;
+    })
 
 -- a disk of another version: no device but the settings' and the disk was touched
 pub returns-in-BadVersion-clause-touches : goal.returns-in-BadVersion-clause-touches
 returns-in-BadVersion-clause-touches g c =
     let same = c.live-end.ensures.untouched c.in-BadVersion.is in
     disk_alone c.args.outside.now _ refl same.0 same.1 same.2 same.3 same.4
+
+-- each fault has its cause
+pub returns-in-DiskFault-clause-causes : goal.returns-in-DiskFault-clause-causes
+returns-in-DiskFault-clause-causes g c = causes c.args.turns _ _ _ _ why.DiskFault
+    (lived c.args.turns _ _ _ _ why.DiskFault c.in-Ok.settings c.in-Ok-conf_of.conf c.live-end.result c.in-Ok.ensures.reads c.in-Ok-conf_of.ensures.answer c.live-end.ensures.lives c.in-DiskFault.is refl refl)
+    (search rules)
+
+pub returns-in-ClockFault-clause-causes : goal.returns-in-ClockFault-clause-causes
+returns-in-ClockFault-clause-causes g c = causes c.args.turns _ _ _ _ why.ClockFault
+    (lived c.args.turns _ _ _ _ why.ClockFault c.in-Ok.settings c.in-Ok-conf_of.conf c.live-end.result c.in-Ok.ensures.reads c.in-Ok-conf_of.ensures.answer c.live-end.ensures.lives c.in-ClockFault.is refl refl)
+    (search rules)
+
+pub returns-in-EntropyFault-clause-causes : goal.returns-in-EntropyFault-clause-causes
+returns-in-EntropyFault-clause-causes g c = causes c.args.turns _ _ _ _ why.EntropyFault
+    (lived c.args.turns _ _ _ _ why.EntropyFault c.in-Ok.settings c.in-Ok-conf_of.conf c.live-end.result c.in-Ok.ensures.reads c.in-Ok-conf_of.ensures.answer c.live-end.ensures.lives c.in-EntropyFault.is refl refl)
+    (search rules)
+
+pub returns-clause-causes : goal.returns-clause-causes
+returns-clause-causes g c = causes c.args.turns _ _ _ _ why.SinkFault
+    (lived c.args.turns _ _ _ _ why.SinkFault c.in-Ok.settings c.in-Ok-conf_of.conf c.live-end.result c.in-Ok.ensures.reads c.in-Ok-conf_of.ensures.answer c.live-end.ensures.lives c.in-SinkFault.is refl refl)
+    (search rules)
