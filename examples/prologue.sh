@@ -5,6 +5,7 @@
 # program and for ports. W32TM=PATH in the environment names the program; else it is the proved one where that is built
 # and up to date, else one that `rt try` builds without proof.
 set -u
+unset W32TM_EXPLAIN
 script=$(basename "$0")
 script_path=$(realpath "$0")
 [ -z "${W32TM:-}" ] || W32TM=$(realpath "$W32TM")
