@@ -22,7 +22,7 @@ part writes calls = record { writes = writes; calls = calls; end = Err end.Ended
 abbrev pub ended : ℕ → List Written → SessionEnd → Served
 ended place writes why = record { writes = writes; calls = []; end = Err why; place = place }
 
--- From these bytes on the server goes on as another one does behind them, once this was written and called.
+-- From these bytes on the server goes on as another one does after them, once this was written and called.
 pub record Advance (old new : Server) (bytes : List ℕ) (writes : List Written) (calls : List Call) : Type 0 where
   pub place : new.reader.place ≡ old.reader.place + length bytes
   pub goes : (rest : List ℕ) (more : List Given) → goes_on old (bytes ++ rest) more ≡ and_then (part writes calls) (goes_on new rest more)

@@ -57,7 +57,7 @@ reacts old bytes pdu does rest more idle size is leads =
     ∙ ap (λ (l : List ℕ). by_reaction (λ now. served n place now l) place old.accepted more (reaction old.accepted pdu)) (drop_at bytes rest (pdu_len pdu) size)
     ∙ ap (by_reaction (λ now. served n place now rest) place old.accepted more) leads
 
--- a server behind a PDU
+-- a server after a PDU
 pub record Behind (old new : Server) (pdu : Pdu) : Type 0 where
   pub place : new.reader.place ≡ old.reader.place + pdu_len pdu
   pub pdus : new.pdus ≡ old.pdus + 1

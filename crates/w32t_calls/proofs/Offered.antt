@@ -38,7 +38,7 @@ one_context context bytes is =
     let ndr = same_from_decides context.ndr (has_ndr (slice_index bytes 2) syntaxes) (is.ndr.0, is.ndr.1) (ndr_decides (slice_index bytes 2) syntaxes) in
     λ i. record { id = id i; known = known i; ndr = ndr i }
 
--- where a context begins, from behind the first one
+-- where a context begins, by the first one and those after it
 at_front : (k : ℕ) (bytes : List ℕ) → context_at (suc k) bytes ≡ context_len bytes + context_at k (drop (context_len bytes) bytes)
 unfolding context_at
 at_front zero bytes = omega arith
