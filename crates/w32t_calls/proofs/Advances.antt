@@ -1,10 +1,9 @@
 -- What the server makes of bytes that were taken of a session: it goes on, or the session ends.
-use Rattle.std.proofs.Common.{◌≡◌, ℕ, zero, suc, ◌+◌, ◌-◌, List, [], ◌∷◌, ◌++◌, length, Option, Some, None, Result, Ok, Err, refl, sym, ◌∙◌, ap, arith, length-append, append_assoc}
+use Rattle.std.proofs.Common.{◌≡◌, ℕ, zero, suc, ◌+◌, ◌-◌, List, [], ◌++◌, length, Option, Some, None, Result, Err, refl, sym, ◌∙◌, ap, arith, length-append, append_assoc}
 use Rattle.std.proofs.lemmas.List.{append-nil}
 use Rattle.edge_traits.specs.Wire.{Written}
 use Rattle.rpc_pdu.specs.declared.fault.PduFault.{PduFault}
 use Rattle.rpc_pdu.specs.declared.pdu.Pdu.{Pdu}
-use Rattle.rpc_pdu.specs.Pdu.{first_pdu}
 use Rattle.rpc_pdu.proofs.Flaws.{first_none}
 use Rattle.w32t_calls.specs.declared.asked.Asked.{Asked}
 use Rattle.w32t_calls.specs.declared.call.Call.{Call}

@@ -1,14 +1,13 @@
 -- What the server's side answers is what the client's side reads.
-use Rattle.std.proofs.Common.{◌≡◌, ◌≢◌, ℕ, ◌+◌, ◌-◌, ◌*◌, ◌/◌, ◌^◌, ◌≤◌, ◌<◌, List, [], ◌∷◌, ◌++◌, length, replicate, Result, Ok, Err, refl, sym, ◌∙◌, ap, arith, length-append, lit<}
+use Rattle.std.proofs.Common.{◌≡◌, ℕ, ◌+◌, ◌-◌, ◌*◌, ◌^◌, ◌≤◌, ◌<◌, List, ◌++◌, length, replicate, Ok, sym, ◌∙◌, ap, arith, length-append, lit<}
 use Rattle.std.specs.Prelude.{All}
 use Rattle.std.proofs.lemmas.List.{length-replicate, take_all}
 use Rattle.byte_codec.specs.Numbers.{low_number_of, low_word_at, low_word_bytes, part_at}
 use Rattle.byte_codec.proofs.Numbers.{length-low_number_bytes, low_number_of-low_number_bytes}
 use Rattle.byte_codec.proofs.Parts.{longer, part_before, part_behind}
 use Rattle.w32t_calls.specs.declared.call.Given.TheVariants as given
-use Rattle.w32t_calls.specs.declared.call_fault.CallFault.{CallFault}
 use Rattle.w32t_calls.specs.Replies.{word_in}
-use Rattle.w32t_calls.specs.Stubs.{SpellsSource, answer_stub, filled_to_four, name_units, rounded_to_four}
+use Rattle.w32t_calls.specs.Stubs.{SpellsSource, answer_stub, name_units, rounded_to_four}
 use Rattle.w32t_calls.proofs.Sources.{IsPrinted, name_len, same_name}
 
 word_is : (place n : ℕ) (bytes : List ℕ) → part_at place 4 bytes ≡ low_word_bytes n → n < 256 ^ 4 → low_word_at place bytes ≡ n

@@ -1,5 +1,5 @@
 -- The numbers at a place in the body of a reply.
-use Rattle.std.proofs.Common.{◌≡◌, ℕ, ◌+◌, ◌≤◌, ◌<◌, ◌^◌, List, ◌++◌, length, take, drop, sym, ◌∙◌, ap, arith}
+use Rattle.std.proofs.Common.{◌≡◌, ℕ, ◌≤◌, ◌<◌, ◌^◌, List, ◌++◌, length, take, drop, sym, ◌∙◌, ap, arith}
 use Rattle.std.proofs.lemmas.List.{take_at}
 use Rattle.byte_codec.specs.Numbers.{low_number_bytes, low_number_of, part_at}
 use Rattle.byte_codec.proofs.Numbers.{length-low_number_bytes, low_number_of-low_number_bytes}

@@ -1,5 +1,5 @@
 -- What the PDU or the fault that stands first leads to, from the server that takes it.
-use Rattle.std.proofs.Common.{◌≡◌, ◌⊎◌, inl, inr, Bool, ℕ, zero, suc, ◌+◌, ◌-◌, ◌<◌, ◌≤◌, List, [], ◌∷◌, ◌++◌, length, drop, Option, Some, None, Result, Ok, Err, refl, sym, ◌∙◌, ap, arith, subst}
+use Rattle.std.proofs.Common.{◌≡◌, ◌⊎◌, inl, inr, Bool, ℕ, suc, ◌+◌, ◌-◌, ◌<◌, ◌≤◌, List, [], ◌∷◌, ◌++◌, length, Option, Some, None, Result, Ok, Err, refl, sym, ◌∙◌, ap, arith}
 use Rattle.std.specs.Prelude.{nat_lt}
 use Rattle.std.proofs.lemmas.Bool.{ltb-true, ltb-false, cases_Bool}
 use Rattle.std.proofs.lemmas.List.{append-nil, drop_at}
@@ -14,7 +14,6 @@ use Rattle.rpc_pdu.specs.Reader.{Shows, ShowsHeader}
 use Rattle.rpc_pdu.proofs.Cuts.{fault_stays, pdu_stays}
 use Rattle.rpc_pdu.proofs.Flaws.{first_flawed, first_none, flaw_cut, header_stays}
 use Rattle.w32t_calls.specs.declared.asked.Asked.{Asked}
-use Rattle.w32t_calls.specs.declared.call.Call.{Call}
 use Rattle.w32t_calls.specs.declared.call.Given.{Given}
 use Rattle.w32t_calls.specs.declared.end.SessionEnd.{SessionEnd}
 use Rattle.w32t_calls.specs.declared.end.SessionEnd.TheVariants as end

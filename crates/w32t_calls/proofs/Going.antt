@@ -1,8 +1,8 @@
 -- A session that is served one PDU after the other.
-use Rattle.std.proofs.Common.{◌≡◌, inl, inr, ℕ, ◌+◌, ◌-◌, Bool, true, false, List, [], ◌∷◌, ◌++◌, length, Option, Some, None, Result, Ok, Err, refl, sym, ◌∙◌, ap, arith, subst, append_assoc}
+use Rattle.std.proofs.Common.{◌≡◌, inl, inr, ℕ, ◌+◌, ◌-◌, Bool, true, false, List, [], ◌++◌, Option, Some, None, Result, Ok, Err, refl, sym, ◌∙◌, ap, arith, subst, append_assoc}
 use Rattle.std.proofs.lemmas.List.{append-nil}
 use Rattle.base_specs.specs.Counts.{Fails}
-use Rattle.base_specs.specs.Told.{LastIs, LastChanged, LastTold}
+use Rattle.base_specs.specs.Told.{LastTold}
 use Rattle.base_specs.proofs.Telling.{last_told_more}
 use Rattle.edge_traits.specs.Wire.{Entry, Session, NoMore, Failed, SessionChanged, SessionIs, SessionTold, TakesOf}
 use Rattle.edge_traits.proofs.Wires.{open_session_more}
@@ -14,11 +14,11 @@ use Rattle.w32t_calls.specs.declared.call.Given.{Given}
 use Rattle.w32t_calls.specs.declared.end.SessionEnd.{SessionEnd}
 use Rattle.w32t_calls.specs.declared.end.SessionEnd.TheVariants as end
 use Rattle.w32t_calls.specs.Serving.{Served, and_then, ends_as, most_pdus, served, session_of}
-use Rattle.w32t_calls.specs.Standing.{HasServed, IsIdle, IsNewSession, Marks, ServeCounts, Serves, ServesOn, Server, Stands, StandsFor, TookFrom, goes_on, goes_on_from, handed_out}
+use Rattle.w32t_calls.specs.Standing.{HasServed, IsIdle, IsNewSession, ServeCounts, Serves, ServesOn, Server, Stands, StandsFor, TookFrom, goes_on, goes_on_from, handed_out}
 use Rattle.w32t_calls.specs.Steps.{Keeps, StepKeeps, StepTells, StepsOn}
 use Rattle.w32t_calls.proofs.Advances.{Stop, quiet}
 use Rattle.w32t_calls.proofs.Served.{ends_here}
-use Rattle.w32t_calls.proofs.Sessions.{Opened, untold, known, last_changed, last_changed_as, opened}
+use Rattle.w32t_calls.proofs.Sessions.{untold, known, last_changed, last_changed_as, opened}
 use Rattle.w32t_calls.proofs.Stepping.{IsStood, stood_of, untold_changed}
 
 -- What holds after some PDUs, each of which was answered.

@@ -1,8 +1,7 @@
 -- What a response does to the server's side.
-use Rattle.std.proofs.Common.{◌≡◌, ℕ, ◌+◌, ◌-◌, Bool, true, List, [], ◌∷◌, ◌++◌, Option, Some, None, Result, Ok, Err, refl, sym, ◌∙◌, ap, append_assoc, length, subst}
+use Rattle.std.proofs.Common.{◌≡◌, ℕ, Bool, true, List, [], ◌∷◌, ◌++◌, Option, Some, None, Result, Ok, Err, sym, ◌∙◌, ap, append_assoc, length, subst}
 use Rattle.std.proofs.lemmas.List.{append-nil}
-use Rattle.base_specs.specs.Told.{LastTold}
-use Rattle.edge_traits.specs.Wire.{Entry, FailsToWrite, SessionChanged, SessionTold, WireWrites, Written, WritesTo}
+use Rattle.edge_traits.specs.Wire.{Entry, FailsToWrite, SessionTold, WireWrites, Written, WritesTo}
 use Rattle.edge_traits.specs.declared.sink.Put.TheVariants as put
 use Rattle.rpc_pdu.specs.declared.pdu.Pdu.{Pdu}
 use Rattle.rpc_pdu.specs.Pdu.{pdu_bytes}
@@ -13,7 +12,7 @@ use Rattle.w32t_calls.specs.declared.end.SessionEnd.{SessionEnd}
 use Rattle.w32t_calls.specs.declared.end.SessionEnd.TheVariants as end
 use Rattle.w32t_calls.specs.Answers.{response_to}
 use Rattle.w32t_calls.specs.Serving.{Served, and_then, answers_first, session_of, written_at}
-use Rattle.w32t_calls.specs.Standing.{HasServed, IsCutShort, Marks, Replied, Replies, Server, StandsFor, goes_on}
+use Rattle.w32t_calls.specs.Standing.{HasServed, IsCutShort, Replied, Replies, Server, StandsFor, goes_on}
 use Rattle.w32t_calls.proofs.Advances.{quiet}
 use Rattle.w32t_calls.proofs.Served.{cut_off, marks_kept, marks_written}
 use Rattle.w32t_calls.proofs.Stepping.{IsStood, changed_alone}

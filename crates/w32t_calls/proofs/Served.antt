@@ -1,5 +1,5 @@
 -- How an open session stands once a PDU was taken of it and answered.
-use Rattle.std.proofs.Common.{◌≡◌, inl, inr, ℕ, ◌+◌, Bool, true, List, [], ◌∷◌, ◌++◌, length, take, Option, Some, None, Result, Ok, Err, refl, sym, ◌∙◌, ap, arith, subst, length-append}
+use Rattle.std.proofs.Common.{◌≡◌, inl, inr, ℕ, ◌+◌, true, List, [], ◌∷◌, ◌++◌, length, take, Some, Result, Ok, Err, refl, sym, ◌∙◌, ap, arith, subst, length-append}
 use Rattle.std.proofs.lemmas.List.{append-nil}
 use Rattle.edge_traits.specs.Wire.{FailsToWrite, SessionTold, TakesOf, Written, WritesTo, with_front}
 use Rattle.rpc_pdu.specs.declared.pdu.Pdu.{Pdu}
@@ -11,9 +11,9 @@ use Rattle.w32t_calls.specs.declared.call.Given.{Given}
 use Rattle.w32t_calls.specs.declared.end.SessionEnd.{SessionEnd}
 use Rattle.w32t_calls.specs.declared.end.SessionEnd.TheVariants as end
 use Rattle.w32t_calls.specs.Serving.{Served, session_of, written_at}
-use Rattle.w32t_calls.specs.Standing.{HasEnded, IsCutShort, Marks, Serves, Server, StandsFor, TookFrom, front_of, goes_on}
+use Rattle.w32t_calls.specs.Standing.{HasEnded, IsCutShort, Marks, Serves, Server, StandsFor, TookFrom, front_of}
 use Rattle.w32t_calls.specs.Steps.{Keeps}
-use Rattle.w32t_calls.proofs.Advances.{Advance, Advanced, Stop, Stopped, advanced, comes_to, stopped}
+use Rattle.w32t_calls.proofs.Advances.{Advance, Stop, Stopped, advanced, comes_to, stopped}
 use Rattle.w32t_calls.proofs.Firsts.{Quietly, waits_at}
 
 -- the server stands for what was taken of the session, and what was written to it is what that comes to

@@ -1,11 +1,11 @@
 -- What a wire tells of its open session, as it is told before and after a call.
-use Rattle.std.proofs.Common.{◌≡◌, inl, inr, ℕ, Bool, true, false, List, [], ◌∷◌, ◌++◌, Option, Some, None, refl, sym, ◌∙◌, ap, subst}
+use Rattle.std.proofs.Common.{◌≡◌, inl, inr, ℕ, true, List, [], ◌∷◌, ◌++◌, Option, Some, None, refl, sym, ◌∙◌, ap, subst}
 use Rattle.std.proofs.lemmas.List.{append-nil}
 use Rattle.std.proofs.lemmas.Option.{none-some, same_Some}
 use Rattle.base_specs.specs.Told.{LastIs, LastChanged, LastTold}
 use Rattle.base_specs.proofs.Telling.{last_changed_behind}
 use Rattle.edge_traits.specs.Wire.{Entry, Session, NoMore, Failed, SessionChanged, SessionIs, SessionTold, TakesOf, WireTook}
-use Rattle.rpc_pdu.specs.Fill.{IsAtEnd, TakesThenFails, WireFailed}
+use Rattle.rpc_pdu.specs.Fill.{IsAtEnd}
 use Rattle.rpc_pdu.proofs.Wires.{last_is}
 
 -- the session as it is told now, which changed so

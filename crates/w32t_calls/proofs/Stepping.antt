@@ -1,10 +1,7 @@
 -- What one PDU does to the wire and to the server's side, from what was taken of the wire and written to it.
-use Rattle.std.proofs.Common.{◌≡◌, inl, inr, ℕ, ◌+◌, Bool, true, false, List, [], ◌∷◌, ◌++◌, length, Option, Some, None, Result, Ok, Err, refl, sym, ◌∙◌, ap, arith, subst}
-use Rattle.std.proofs.lemmas.List.{append-nil}
+use Rattle.std.proofs.Common.{◌≡◌, ℕ, ◌+◌, true, List, [], ◌∷◌, ◌++◌, length, Option, Some, None, Result, Ok, Err, refl, sym, ◌∙◌, ap, arith, subst}
 use Rattle.base_specs.specs.Told.{LastIs, LastTold}
 use Rattle.edge_traits.specs.Wire.{Entry, FailsToWrite, Session, SessionChanged, SessionIs, SessionTold, TakesOf, WireTook, WritesTo}
-use Rattle.rpc_pdu.specs.declared.fault.PduFault.{PduFault}
-use Rattle.rpc_pdu.specs.declared.fault.PduFault.TheVariants as fault
 use Rattle.rpc_pdu.specs.declared.pdu.Pdu.{Pdu}
 use Rattle.rpc_pdu.specs.Fill.{IsAtEnd, TakesThenFails, WireFailed}
 use Rattle.rpc_pdu.specs.Pdu.{first_pdu, pdu_bytes, pdu_len}
@@ -19,11 +16,11 @@ use Rattle.w32t_calls.specs.declared.reaction.Reaction.TheVariants.{Answers, Bin
 use Rattle.w32t_calls.specs.Answers.{reaction}
 use Rattle.w32t_calls.specs.Serving.{Served, session_of, written_at}
 use Rattle.w32t_calls.specs.Standing.{HasServed, Serves, Server, StandsFor, goes_on}
-use Rattle.w32t_calls.specs.Steps.{Done, Failed, Keeps, Puts, Reacts, StepTells, Steps, StepsOn}
+use Rattle.w32t_calls.specs.Steps.{Done, Failed, Keeps, Puts, Reacts, StepTells, StepsOn}
 use Rattle.w32t_calls.proofs.Advances.{Advance, Stop, advanced, stopped}
 use Rattle.w32t_calls.proofs.Firsts.{Behind, Idle, Quietly, advance_answer, advance_bind, advance_call, stop_end, waits_at}
 use Rattle.w32t_calls.proofs.Served.{Stood, ends_here, keeps_on, marks_kept, serves_bad, serves_call, serves_cut, serves_failed}
-use Rattle.w32t_calls.proofs.Sessions.{Opened, untold, known, Seen, changed_seen, last_changed, nothing_left, opened, silent, silent_took, took_seen}
+use Rattle.w32t_calls.proofs.Sessions.{untold, known, changed_seen, last_changed, nothing_left, opened, silent, silent_took, took_seen}
 
 -- what the session is that a server stands for
 abbrev pub IsStood : Server → List Given → SessionTold → Type 0

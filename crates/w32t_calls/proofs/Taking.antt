@@ -1,6 +1,5 @@
 -- What one PDU or fault that was taken does, as the clauses of one step say it.
-use Rattle.std.proofs.Common.{◌≡◌, ℕ, ◌+◌, ◌<◌, ◌≤◌, Bool, true, false, List, [], ◌∷◌, ◌++◌, length, Option, Some, None, Result, Ok, Err, refl, sym, ◌∙◌, ap, arith, subst}
-use Rattle.std.specs.Prelude.{⊤, nat_lt}
+use Rattle.std.proofs.Common.{◌≡◌, ℕ, ◌+◌, ◌≤◌, Bool, true, false, List, [], ◌∷◌, length, Option, Some, None, Result, Ok, Err, refl, sym, ◌∙◌, ap, arith, subst}
 use Rattle.std.specs.Option.{unwrap_or}
 use Rattle.std.proofs.lemmas.Bool.{cond-false, le-ltb}
 use Rattle.base_specs.specs.Counts.{Fails}
@@ -9,11 +8,8 @@ use Rattle.edge_traits.specs.Wire.{Entry, WireTook}
 use Rattle.rpc_pdu.specs.declared.fault.PduFault.{PduFault}
 use Rattle.rpc_pdu.specs.declared.fault.PduFault.TheVariants as fault
 use Rattle.rpc_pdu.specs.declared.pdu.Pdu.{Pdu}
-use Rattle.rpc_pdu.specs.Fill.{OpensNone}
-use Rattle.rpc_pdu.specs.Pdu.{pdu_len}
-use Rattle.rpc_pdu.specs.Reader.{Leaves, NextCounts, Nexts, Reader, TookBy, called}
+use Rattle.rpc_pdu.specs.Reader.{Leaves, NextCounts, Nexts, Reader, TookBy}
 use Rattle.rpc_pdu.proofs.Flaws.{first_flawed}
-use Rattle.w32t_calls.specs.declared.asked.Asked.{Asked}
 use Rattle.w32t_calls.specs.declared.call.Call.{Call}
 use Rattle.w32t_calls.specs.declared.call.Given.{Given}
 use Rattle.w32t_calls.specs.declared.end.SessionEnd.{SessionEnd}
@@ -25,7 +21,7 @@ use Rattle.w32t_calls.specs.Serving.{Served, written_at}
 use Rattle.w32t_calls.specs.Standing.{HasServed, IsIdle, ServeCounts, Server, goes_on}
 use Rattle.w32t_calls.specs.Steps.{Done, EndsBy, Failed, Puts, Reacts, StepKeeps, StepTells, StepsOn, WriteCounts, unanswered}
 use Rattle.w32t_calls.proofs.Advances.{Stop}
-use Rattle.w32t_calls.proofs.Firsts.{Behind, Idle, ShownFault, fault_answer, fault_shown, quietly, stop_ended, stop_fault, stop_torn}
+use Rattle.w32t_calls.proofs.Firsts.{Idle, fault_answer, fault_shown, quietly, stop_ended, stop_fault, stop_torn}
 use Rattle.w32t_calls.proofs.Stepping.{IsPdu, TookPdu, run_end, run_ended, run_failed, run_pdu, run_torn, tell_end, tell_left, tell_pdu}
 
 -- ---- A PDU

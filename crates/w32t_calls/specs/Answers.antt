@@ -1,5 +1,5 @@
 -- What the server's side answers to a PDU. Each answer is a PDU with flags 03 and the call identifier of what it answers.
-use Rattle.std.specs.Prelude.{ℕ, ◌+◌, Bool, not, ◌&&◌, ◌||◌, List, [], ◌∷◌, ◌++◌, length, replicate, drop, flat_map, nat_lt, nat_le, ◌==◌, if◌then◌else◌}
+use Rattle.std.specs.Prelude.{ℕ, Bool, not, ◌&&◌, ◌||◌, List, [], ◌∷◌, ◌++◌, length, replicate, drop, flat_map, nat_lt, nat_le, ◌==◌, if◌then◌else◌}
 use Rattle.byte_codec.specs.Numbers.{low_half_word_bytes, low_word_at, low_word_bytes}
 use Rattle.rpc_pdu.specs.declared.bind.Context.{Context}
 use Rattle.rpc_pdu.specs.declared.pdu.Pdu.{Pdu}

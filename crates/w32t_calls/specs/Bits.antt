@@ -1,5 +1,5 @@
 -- How a computer announces itself, by its flags and its role.
-use Rattle.std.specs.Prelude.{◌≡◌, ◌⊎◌, ℕ, ◌+◌, Bool, true, false, ◌&&◌, ◌||◌, not, nat_eq, bit_and, ◌==◌, if◌then◌else◌}
+use Rattle.std.specs.Prelude.{ℕ, ◌+◌, Bool, true, false, ◌&&◌, ◌||◌, not, bit_and, ◌==◌, if◌then◌else◌}
 use Rattle.partner_pick.specs.declared.entry.Role.{Role}
 use Rattle.partner_pick.specs.declared.entry.Role.TheVariants.{Member, Controller, Pdc}
 

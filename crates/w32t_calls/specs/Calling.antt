@@ -1,5 +1,5 @@
 -- What a client keeps, and what a call of it does to the wire.
-use Rattle.std.specs.Prelude.{◌≡◌, ◌≢◌, ◌⊎◌, ℕ, ◌+◌, ◌<◌, Bool, true, false, List, [], Option, Some, None, Result, Ok, Err}
+use Rattle.std.specs.Prelude.{◌≡◌, ◌≢◌, ℕ, ◌+◌, ◌<◌, Bool, true, List, Option, Result, Err}
 use Rattle.base_specs.specs.Counts.{Fails}
 use Rattle.edge_traits.specs.Wire.{Entry, WireWrites}
 use Rattle.edge_traits.specs.declared.sink.Put.TheVariants as put

@@ -1,5 +1,5 @@
 -- The contexts that a bind offers (C706, 12.6.4.3), as a list, and which of them are accepted.
-use Rattle.std.specs.Prelude.{ℕ, zero, suc, ◌+◌, ◌*◌, Bool, false, ◌&&◌, ◌||◌, List, [], ◌∷◌, map, filter, drop, slice_index, nat_le, ◌==◌, bytes_eq}
+use Rattle.std.specs.Prelude.{ℕ, zero, suc, ◌*◌, Bool, false, ◌&&◌, ◌||◌, List, [], ◌∷◌, map, filter, drop, slice_index, nat_le, ◌==◌, bytes_eq}
 use Rattle.std.specs.List.{list_any}
 use Rattle.byte_codec.specs.Numbers.{part_at}
 use Rattle.rpc_pdu.specs.declared.bind.Context.{Context}

@@ -1,5 +1,5 @@
 -- What a session comes to: its bytes, cut into PDUs from the front, and the answers to the calls that they ask for.
-use Rattle.std.specs.Prelude.{ℕ, zero, suc, ◌+◌, ◌-◌, List, [], ◌∷◌, ◌++◌, length, drop, Option, Some, None, Result, Ok, Err}
+use Rattle.std.specs.Prelude.{ℕ, zero, suc, ◌+◌, List, [], ◌∷◌, ◌++◌, length, drop, Option, Some, None, Result, Ok, Err}
 use Rattle.byte_codec.specs.Numbers.{low_word_at}
 use Rattle.edge_traits.specs.Wire.{Written}
 use Rattle.rpc_pdu.specs.declared.fault.PduFault.{PduFault}

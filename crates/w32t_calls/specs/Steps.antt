@@ -1,5 +1,5 @@
 -- What one PDU of a session does to its server's side: the parts of which `next` is made.
-use Rattle.std.specs.Prelude.{◌≡◌, ◌≢◌, ⊤, ℕ, ◌+◌, Bool, List, [], ◌++◌, Option, Some, None, Result, Ok, Err}
+use Rattle.std.specs.Prelude.{◌≡◌, ◌≢◌, ⊤, ℕ, ◌+◌, Bool, List, [], Option, Some, None, Result, Ok, Err}
 use Rattle.base_specs.specs.Counts.{Fails}
 use Rattle.edge_traits.specs.Wire.{Entry, SessionChanged, SessionTold, WireWrites}
 use Rattle.edge_traits.specs.declared.sink.Put.TheVariants as put

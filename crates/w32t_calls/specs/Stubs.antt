@@ -1,6 +1,6 @@
 -- The stubs of the three calls (MS-W32T, 3.2.5; C706, 14): what is asked, and what is answered. Numbers stand with
 -- their least significant byte first.
-use Rattle.std.specs.Prelude.{◌≡◌, ◌≢◌, ℕ, ◌+◌, ◌-◌, ◌*◌, ◌/◌, ◌%◌, ◌≤◌, ⊤, All, List, [], ◌∷◌, ◌++◌, length, replicate, flat_map}
+use Rattle.std.specs.Prelude.{◌≡◌, ◌≢◌, ℕ, ◌+◌, ◌-◌, ◌*◌, ◌/◌, ◌≤◌, ⊤, All, List, [], ◌∷◌, ◌++◌, length, replicate, flat_map}
 use Rattle.byte_codec.specs.Numbers.{low_word_at, low_word_bytes, part_at}
 use Rattle.w32t_calls.specs.declared.call.Call.{Call}
 use Rattle.w32t_calls.specs.declared.call.Call.TheVariants as call

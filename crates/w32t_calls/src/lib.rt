@@ -13,7 +13,7 @@
 //! The definitions: `specs/Serving.antt` cuts the bytes of a session into PDUs and answers them, `specs/Answers.antt` says what a
 //! PDU leads to, `specs/Contexts.antt` what a bind offers, `specs/Stubs.antt` how calls and answers are written;
 //! `specs/Asking.antt` is what a client writes, and `specs/Replies.antt` what it makes of the reply. `specs/Standing.antt` and
-//! `specs/Calling.antt` say what each side keeps and does, and `specs/Bits.antt` what the bits are.
+//! `specs/Calling.antt` say what each side keeps and does, `specs/Steps.antt` what one PDU does, and `specs/Bits.antt` the bits.
 #![tactic(auto)]
 
 mod accepted;

@@ -1,4 +1,4 @@
-use Rattle.std.proofs.Common.{arith, sym, ◌∙◌, ap}
+use Rattle.std.proofs.Common.{arith, ◌∙◌, ap}
 use Rattle.w32t_calls.specs.declared.reaction.Reaction.TheVariants.{Answers, Binds}
 use Rattle.w32t_calls.proofs.Offered.{bind_reacts, bind_refused}
 use Rattle.w32t_calls.proofs.answers.react_to_bind.Goals as goal

@@ -1,4 +1,4 @@
-use Rattle.std.proofs.Common.{◌≡◌, Option, None, Err, sym, subst, rules}
+use Rattle.std.proofs.Common.{◌≡◌, Option, None, Err, sym, subst}
 use Rattle.rpc_pdu.specs.declared.pdu.Pdu.{Pdu}
 use Rattle.w32t_calls.specs.declared.end.SessionEnd.{SessionEnd}
 use Rattle.w32t_calls.specs.declared.end.SessionEnd.TheVariants as end

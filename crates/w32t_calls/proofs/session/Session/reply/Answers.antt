@@ -1,5 +1,4 @@
-use Rattle.std.proofs.Common.{sym, ◌∙◌, ap, subst, Option, List, ℕ, Bool, false, true}
-use Rattle.rpc_pdu.specs.Reader.{Reader}
+use Rattle.std.proofs.Common.{sym, ◌∙◌, ap, subst, Option, false}
 use Rattle.w32t_calls.specs.declared.asked.Asked.{Asked}
 use Rattle.w32t_calls.specs.Standing.{HasServed, Server}
 use Rattle.w32t_calls.proofs.Replying.{reply_done, reply_failed}

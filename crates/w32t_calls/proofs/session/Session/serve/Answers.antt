@@ -1,4 +1,4 @@
-use Rattle.std.proofs.Common.{◌≡◌, true, List, Option, Some, Result, Ok, Err, sym, ◌∙◌, ap, arith, subst, rules}
+use Rattle.std.proofs.Common.{◌≡◌, true, List, Option, Result, Ok, Err, sym, ◌∙◌, ap, arith, subst, rules}
 use Rattle.w32t_calls.specs.declared.call.Call.{Call}
 use Rattle.w32t_calls.specs.declared.call.Given.{Given}
 use Rattle.w32t_calls.specs.declared.end.SessionEnd.{SessionEnd}
