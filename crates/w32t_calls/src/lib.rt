@@ -34,6 +34,8 @@ mod replies;
 mod session;
 mod source;
 mod stubs;
+#[cfg(test)]
+mod vectors;
 
 pub use bits::service_bits;
 pub use call::{Call, Given};
