@@ -5,6 +5,8 @@ use edge_traits::{Opened, Put, Take, Wire};
 use partner_pick::Role;
 use std::process::Abort;
 
+mod sources;
+
 /// A bind and the calls sync with wait 1 and flags 2, source and bits: 72, 32, 24 and 24 bytes. They are Python's:
 /// `struct.pack("<4B4sHHI", 5, 0, kind, 3, b"\x10\0\0\0", 16 + len(body), 0, call) + body`. The body of the bind is
 /// `struct.pack("<HHIB3x", 5840, 5840, 0, 1) + struct.pack("<HBB", 0, 1, 0)`, the interface's `uuid.UUID(..).bytes_le`,
@@ -368,7 +370,33 @@ fn results_of_a_bind(rt: HostRuntime) {
     }
 }
 
-/// The accepted bind, and this reply behind it.
+#[test]
+fn faults_of_later_replies(rt: HostRuntime) {
+    // How many calls are answered before, and where the next reply begins.
+    for (count, at) in [(0, 0_usize), (1, 56), (2, 84), (3, 136)] {
+        // Version, type, fragment, data representation, length, authentication, and the call identifier.
+        for (place, byte) in [
+            (0, 4),
+            (1, 1),
+            (2, 1),
+            (2, 0),
+            (3, 1),
+            (4, 0),
+            (8, 15),
+            (9, 0x17),
+            (10, 1),
+            (12, 0),
+            (15, 1),
+        ] {
+            let replies = changed(ANSWERED, at.saturating_add(place), byte);
+            let found = converse(&rt, &mut in_pieces(replies.as_slice(), 7));
+            let bad = CallFault::BadReply(at as u64);
+            assert_eq!(rt; found, (count, Some(bad)), "{byte} at {place}");
+        }
+    }
+}
+
+/// The accepted bind, and this reply after it.
 fn after_bind(reply: &[u8]) -> ArrayVec<u8, 400> {
     let mut out = ArrayVec::new();
     let _ = out.try_extend_from_slice(&ANSWERED[..ACK_LEN]);
@@ -415,95 +443,5 @@ fn replies_to_sync(rt: HostRuntime) {
             told,
             "{len} bytes of type {kind} for {call}"
         );
-    }
-}
-
-/// The length of the name that source makes of this stub.
-fn named_by(stub: &[u8]) -> Result<usize, CallFault> {
-    let mut body: ArrayVec<u8, 300> = ArrayVec::new();
-    let _ = body.try_extend_from_slice(&[0; 8]);
-    let _ = body.try_extend_from_slice(stub);
-    let reply = pdu(2, 2, body.as_slice());
-    let bytes = after_bind(reply.as_slice());
-    let mut wire = in_pieces(bytes.as_slice(), 7);
-    let mut caller = Caller::new();
-    caller.bind(&mut wire)?;
-    let name = caller.source(&mut wire)?;
-    Ok(name.as_slice().len())
-}
-
-#[test]
-fn replies_to_source(rt: HostRuntime) {
-    let bad = Err(CallFault::BadReply(56));
-    // The stub of the name DC1: the referent, the greatest count, the offset, the count, the units and the status.
-    let answered = ANSWERED.as_slice();
-    let stub = &answered[108..136];
-    for (place, byte, told) in [
-        (0, 0, Ok(3)),
-        (2, 0, bad),
-        (3, 9, Ok(3)),
-        (4, 3, bad),
-        (4, 5, Ok(3)),
-        (7, 1, Ok(3)),
-        (8, 1, bad),
-        (11, 1, bad),
-        (12, 0, bad),
-        (12, 1, bad),
-        (12, 3, bad),
-        (12, 5, bad),
-        (12, 65, bad),
-        (15, 1, bad),
-        (16, 0x1F, bad),
-        (16, 0x20, Ok(3)),
-        (16, 0x7E, Ok(3)),
-        (16, 0x7F, bad),
-        (16, 0, bad),
-        (17, 1, bad),
-        (22, 1, bad),
-        (23, 1, bad),
-        (24, 1, bad),
-        (27, 1, bad),
-    ] {
-        let reply = changed(stub, place, byte);
-        assert_eq!(rt; named_by(reply.as_slice()), told, "{byte} at {place}");
-    }
-    // A name of two bytes, with padding that isn't looked at.
-    let short = changed(changed(stub, 12, 3).as_slice(), 20, 0);
-    let padded = changed(changed(short.as_slice(), 22, 0xFF).as_slice(), 23, 0xFF);
-    assert_eq!(rt; named_by(short.as_slice()), Ok(2));
-    assert_eq!(rt; named_by(padded.as_slice()), Ok(2));
-    for len in 0..28 {
-        assert_eq!(rt; named_by(front(stub, len)), bad, "{len} bytes");
-    }
-}
-
-/// The stub of a name of so many letters, whose status stands behind this many bytes of padding.
-fn long_stub(letters: u8, padding: usize) -> ArrayVec<u8, 300> {
-    let mut out = ArrayVec::new();
-    let count = letters.saturating_add(1);
-    let _ = out.try_extend_from_slice(&[
-        1, 0, 0, 0, 0xFF, 0xFF, 0xFF, 0xFF, 0, 0, 0, 0, count, 0, 0, 0,
-    ]);
-    for _ in 0..letters {
-        let _ = out.try_extend_from_slice(b"A\0");
-    }
-    let _ = out.try_extend_from_slice(&[0; 6][..padding.saturating_add(2).min(6)]);
-    let _ = out.try_extend_from_slice(&[0; 4]);
-    out
-}
-
-#[test]
-fn shortest_and_longest_name(rt: HostRuntime) {
-    let bad = Err(CallFault::BadReply(56));
-    for (letters, padding, told) in [
-        (0, 2, bad),
-        (1, 0, Ok(1)),
-        (2, 2, Ok(2)),
-        (62, 2, Ok(62)),
-        (63, 0, Ok(63)),
-        (64, 2, bad),
-    ] {
-        let stub = long_stub(letters, padding);
-        assert_eq!(rt; named_by(stub.as_slice()), told, "{letters} letters");
     }
 }

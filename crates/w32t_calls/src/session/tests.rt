@@ -17,6 +17,8 @@ use partner_pick::NameText;
 use std::process::Abort;
 use std::test::Fail;
 
+mod edges;
+
 /// A bind of three contexts, with NDR, with sixteen bytes 11 and with sixteen bytes 22; the calls sync with wait 1 and
 /// flags 2, source and bits; and operation 6: 160, 32, 24, 24 and 24 bytes.
 const SESSION: &[u8; 264] =
@@ -276,11 +278,12 @@ fn service_without_a_bind(rt: HostRuntime) {
 #[test]
 fn what_no_client_sends(rt: HostRuntime) {
     let header = b"\x05\0\0\x03\x10\0\0\0\x18\0\0\0\x09\0\0\0".as_slice();
-    // A byte of the header that is changed: version, minor, type, flags, representation, lengths.
+    // A byte of the header that is changed: version, minor, type (14 would be alter_context), flags, representation, lengths.
     for (place, byte) in [
         (0, 4),
         (1, 1),
         (2, 1),
+        (2, 14),
         (3, 1),
         (4, 0),
         (8, 15),
