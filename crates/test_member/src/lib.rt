@@ -9,8 +9,6 @@
 #![tactic(auto)]
 
 #[cfg(test)]
-mod asserts;
-#[cfg(test)]
 mod runs;
 #[cfg(test)]
 mod steps;
