@@ -20,6 +20,9 @@ chmod 755 "$folder"
 rid=1103
 key=000102030405060708090a0b0c0d0e0f
 
+# Whether somebody reads this pipe.
+is_read() { python3 -c 'import os, sys; os.open(sys.argv[1], os.O_WRONLY | os.O_NONBLOCK)' "$1" 2>/dev/null; }
+
 # The server, chronyd and socat. chronyd looks at its samples each 2^$1 seconds, takes the median of the last $2, and keeps a
 # line of each.
 start_chain() {
@@ -38,6 +41,8 @@ start_chain() {
     mkfifo "$folder/fifo"
     socat -u -b40 "PIPE:$folder/fifo,rdwr" "UNIX-SENDTO:$folder/socket" &
     socat=$!
+    # A sample that nobody reads ends the member.
+    wait_until 10 is_read "$folder/fifo" || fail "socat didn't open the pipe"
 }
 stop_chain() { stop $socat $chronyd $responder; }
 
