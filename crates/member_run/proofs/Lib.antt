@@ -1,3 +1,4 @@
+pub mod Borrows
 pub mod Beginning
 pub mod Counts
 pub mod Following

@@ -198,17 +198,17 @@ got_part others conf start need next history member from bytes link link' clock 
     (does_receive others conf history link link' clock words capture out lf lf' f (Got from bytes) gave counts) counted refl takes (weaves time) (behind time) (arrival_reserved conf history time from bytes kept)
 
 -- what an arrival answers is what it led to, at the reading that it was taken at
-pub led_to : (result : Result Outcome Why) (old new : Running) (now : ℤ) (from : Addr) (bytes : List ℕ) (link link' : Option (List LinkCall)) (clock clock' clock'' : Option (List ClockCall)) (capture capture' out out' : Option (List ℕ)) (lf lf' cf cf' cf'' kf kf' of of' : ℕ)
+pub led_to : (result : Result Outcome Why) (old new : Running) (now : ℤ) (from : Addr) (bytes : List ℕ) (words : Option (List ℕ)) (entropy disk : ℕ) (link link' : Option (List LinkCall)) (clock clock' clock'' : Option (List ClockCall)) (capture capture' out out' : Option (List ℕ)) (lf lf' cf cf' cf'' kf kf' of of' : ℕ)
     → GaveReadings clock clock' (now ∷ []) → cf' ≡ cf
     → ((others : Seen) (history : History) → StandsForHistory old.member history
-    → Takes (conf_of old.member) history (Arrive now from bytes) [] (living others link clock' others.words capture out lf (faults cf' others.entropy_faults others.disk_faults kf of))
-    (living others link' clock'' others.words capture' out' lf' (faults cf'' others.entropy_faults others.disk_faults kf' of')) new.member old.totals new.totals (why_of result))
+    → Takes (conf_of old.member) history (Arrive now from bytes) [] (living others link clock' words capture out lf (faults cf' entropy disk kf of))
+    (living others link' clock'' words capture' out' lf' (faults cf'' entropy disk kf' of')) new.member old.totals new.totals (why_of result))
     → IfOk result (IsTaken old new (Arrive now from bytes))
     → IfOk result (λ outcome. (others : Seen) (history : History) → StandsForHistory old.member history
-    → TakesTo (conf_of old.member) history (λ time. Arrive time from bytes) (living others link clock others.words capture out lf (faults cf others.entropy_faults others.disk_faults kf of))
-    (living others link' clock'' others.words capture' out' lf' (faults cf'' others.entropy_faults others.disk_faults kf' of')) new.member old.totals new.totals outcome)
-led_to (Ok outcome) old new now from bytes link link' clock clock' clock'' capture capture' out out' lf lf' cf cf' cf'' kf kf' of of' gave read takes taken =
+    → TakesTo (conf_of old.member) history (λ time. Arrive time from bytes) (living others link clock words capture out lf (faults cf entropy disk kf of))
+    (living others link' clock'' words capture' out' lf' (faults cf'' entropy disk kf' of')) new.member old.totals new.totals outcome)
+led_to (Ok outcome) old new now from bytes words entropy disk link link' clock clock' clock'' capture capture' out out' lf lf' cf cf' cf'' kf kf' of of' gave read takes taken =
     λ others history stands.
-    takes_to others (conf_of old.member) history (λ (time : ℤ). Arrive time from bytes) new.member link clock clock' others.words capture out lf cf cf' others.entropy_faults others.disk_faults kf of
-    (living others link' clock'' others.words capture' out' lf' (faults cf'' others.entropy_faults others.disk_faults kf' of')) old.totals new.totals now outcome gave read (takes others history stands) (taken.steps history stands).0
-led_to (Err why) old new now from bytes link link' clock clock' clock'' capture capture' out out' lf lf' cf cf' cf'' kf kf' of of' gave read takes taken = tt
+    takes_to others (conf_of old.member) history (λ (time : ℤ). Arrive time from bytes) new.member link clock clock' words capture out lf cf cf' entropy disk kf of
+    (living others link' clock'' words capture' out' lf' (faults cf'' entropy disk kf' of')) old.totals new.totals now outcome gave read (takes others history stands) (taken.steps history stands).0
+led_to (Err why) old new now from bytes words entropy disk link link' clock clock' clock'' capture capture' out out' lf lf' cf cf' cf'' kf kf' of of' gave read takes taken = tt

@@ -307,13 +307,13 @@ pub answers_err : (conf : Conf) (history : History) (before now : Seen) (member 
 answers_err conf history before now member kept old new came why step = record { part = step.part; answer = tt }
 
 -- a round between two receipts
-pub record Rounds (taken : ℕ) (old new : Running) (result : ℕ) (link link' : Option (List LinkCall)) (clock clock' : Option (List ClockCall)) (capture capture' out out' : Option (List ℕ)) (lf lf' cf cf' kf kf' of of' : ℕ) : Type 0 where
+pub record Rounds (taken : ℕ) (old new : Running) (result : ℕ) (words : Option (List ℕ)) (entropy disk : ℕ) (link link' : Option (List LinkCall)) (clock clock' : Option (List ClockCall)) (capture capture' out out' : Option (List ℕ)) (lf lf' cf cf' kf kf' of of' : ℕ) : Type 0 where
   pub left : ℕ
   pub sum : taken + left ≡ 16
   pub begun : IsBegun new
   pub none : SendsNone old new
   pub round : (others : Seen) (history : History) → StandsForHistory (member_of old) history
-      → Rounded left history old new (living others link clock others.words capture out lf (faults cf others.entropy_faults others.disk_faults kf of)) (living others link' clock' others.words capture' out' lf' (faults cf' others.entropy_faults others.disk_faults kf' of')) result
+      → Rounded left history old new (living others link clock words capture out lf (faults cf entropy disk kf of)) (living others link' clock' words capture' out' lf' (faults cf' entropy disk kf' of')) result
 
 sends_same : (running : Running) → SendsNone running running
 sends_same running = record { keeper = refl; last = refl; greatest = refl }
@@ -321,33 +321,33 @@ sends_same running = record { keeper = refl; last = refl; greatest = refl }
 pub sends_then : (old mid new : Running) → SendsNone old mid → SendsNone mid new → SendsNone old new
 sends_then old mid new first next = record { keeper = next.keeper ∙ first.keeper; last = next.last ∙ first.last; greatest = next.greatest ∙ first.greatest }
 
-pub rounds_none : (running : Running) (link : Option (List LinkCall)) (clock : Option (List ClockCall)) (capture out : Option (List ℕ)) (lf cf kf of : ℕ) → IsBegun running
-    → Rounds 0 running running 1 link link clock clock capture capture out out lf lf cf cf kf kf of of
-rounds_none running link clock capture out lf cf kf of begun = record {
+pub rounds_none : (running : Running) (words : Option (List ℕ)) (entropy disk : ℕ) (link : Option (List LinkCall)) (clock : Option (List ClockCall)) (capture out : Option (List ℕ)) (lf cf kf of : ℕ) → IsBegun running
+    → Rounds 0 running running 1 words entropy disk link link clock clock capture capture out out lf lf cf cf kf kf of of
+rounds_none running words entropy disk link clock capture out lf cf kf of begun = record {
   left = 16;
   sum = refl;
   begun = begun;
   none = sends_same running;
-  round = λ others history stands. rounded_none history running (living others link clock others.words capture out lf (faults cf others.entropy_faults others.disk_faults kf of)) stands;
+  round = λ others history stands. rounded_none history running (living others link clock words capture out lf (faults cf entropy disk kf of)) stands;
 }
 
-module _ (done : ℕ) (old mid : Running) (result : ℕ) (l0 l1 l2 : Option (List LinkCall)) (c0 c1 : Option (List ClockCall)) (k0 k1 o0 o1 : Option (List ℕ)) (lf0 lf1 lf2 cf0 cf1 kf0 kf1 of0 of1 : ℕ)
-    (below : done < 16) (was : Rounds done old mid result l0 l1 c0 c1 k0 k1 o0 o1 lf0 lf1 cf0 cf1 kf0 kf1 of0 of1) where
+module _ (done : ℕ) (old mid : Running) (result : ℕ) (words : Option (List ℕ)) (entropy disk : ℕ) (l0 l1 l2 : Option (List LinkCall)) (c0 c1 : Option (List ClockCall)) (k0 k1 o0 o1 : Option (List ℕ)) (lf0 lf1 lf2 cf0 cf1 kf0 kf1 of0 of1 : ℕ)
+    (below : done < 16) (was : Rounds done old mid result words entropy disk l0 l1 c0 c1 k0 k1 o0 o1 lf0 lf1 cf0 cf1 kf0 kf1 of0 of1) where
   -- what was said of the receipts before
   earlier : (k : ℕ) → was.left ≡ suc k → (others : Seen) (history : History) → StandsForHistory (member_of old) history
-      → Rounded (suc k) history old mid (living others l0 c0 others.words k0 o0 lf0 (faults cf0 others.entropy_faults others.disk_faults kf0 of0)) (living others l1 c1 others.words k1 o1 lf1 (faults cf1 others.entropy_faults others.disk_faults kf1 of1)) result
+      → Rounded (suc k) history old mid (living others l0 c0 words k0 o0 lf0 (faults cf0 entropy disk kf0 of0)) (living others l1 c1 words k1 o1 lf1 (faults cf1 entropy disk kf1 of1)) result
   earlier k is others history stands =
-      let P : ℕ → Type 0 = λ (left : ℕ). Rounded left history old mid (living others l0 c0 others.words k0 o0 lf0 (faults cf0 others.entropy_faults others.disk_faults kf0 of0)) (living others l1 c1 others.words k1 o1 lf1 (faults cf1 others.entropy_faults others.disk_faults kf1 of1)) result in
+      let P : ℕ → Type 0 = λ (left : ℕ). Rounded left history old mid (living others l0 c0 words k0 o0 lf0 (faults cf0 entropy disk kf0 of0)) (living others l1 c1 words k1 o1 lf1 (faults cf1 entropy disk kf1 of1)) result in
       subst P is (was.round others history stands)
 
   -- an arrival that was not accepted
   pub rounds_got : (new : Running) (result' : ℕ) (from : Addr) (bytes : List ℕ) (outcome : Outcome) (l3 : Option (List LinkCall)) (c2 : Option (List ClockCall)) (k2 o2 : Option (List ℕ)) (lf3 cf2 kf2 of2 : ℕ)
       → Grew l1 l2 (Receive (Got from bytes) ∷ []) → ReceiptCounts (Got from bytes) lf1 lf2
       → ((others : Seen) (history : History) → StandsForHistory (member_of mid) history
-      → TakesTo (conf_of (member_of mid)) history (λ time. Arrive time from bytes) (living others l2 c1 others.words k1 o1 lf2 (faults cf1 others.entropy_faults others.disk_faults kf1 of1))
-      (living others l3 c2 others.words k2 o2 lf3 (faults cf2 others.entropy_faults others.disk_faults kf2 of2)) (member_of new) (totals_of mid) (totals_of new) outcome)
+      → TakesTo (conf_of (member_of mid)) history (λ time. Arrive time from bytes) (living others l2 c1 words k1 o1 lf2 (faults cf1 entropy disk kf1 of1))
+      (living others l3 c2 words k2 o2 lf3 (faults cf2 entropy disk kf2 of2)) (member_of new) (totals_of mid) (totals_of new) outcome)
       → IsBegun new → SendsNone mid new → is_moved outcome ≡ false → ((came : List Outcome) → Results came result → Results (came ++ outcome ∷ []) result')
-      → Rounds (done + 1) old new result' l0 l3 c0 c2 k0 k2 o0 o2 lf0 lf3 cf0 cf2 kf0 kf2 of0 of2
+      → Rounds (done + 1) old new result' words entropy disk l0 l3 c0 c2 k0 k2 o0 o2 lf0 lf3 cf0 cf2 kf0 kf2 of0 of2
   rounds_got new result' from bytes outcome l3 c2 k2 o2 lf3 cf2 kf2 of2 gave counts leads begun sends moved results =
       let one = one_left 16 done was.left below was.sum in
       let k = one.0 in
@@ -363,8 +363,8 @@ module _ (done : ℕ) (old mid : Running) (result : ℕ) (l0 l1 l2 : Option (Lis
               came = before.came ++ outcome ∷ [];
               step = rounded_then k history old mid _ _ _ (member_of new) (totals_of new) Done result (round_of k) (outcome ∷ []) before
                   (λ later stood.
-                  got_step others (conf_of (member_of mid)) k later (member_of new) from bytes l1 l2 c1 others.words k1 o1 lf1 lf2 (faults cf1 others.entropy_faults others.disk_faults kf1 of1)
-                  (living others l3 c2 others.words k2 o2 lf3 (faults cf2 others.entropy_faults others.disk_faults kf2 of2)) (kept_of old) (totals_of mid) (totals_of new) outcome (round_of k) gave counts
+                  got_step others (conf_of (member_of mid)) k later (member_of new) from bytes l1 l2 c1 words k1 o1 lf1 lf2 (faults cf1 entropy disk kf1 of1)
+                  (living others l3 c2 words k2 o2 lf3 (faults cf2 entropy disk kf2 of2)) (kept_of old) (totals_of mid) (totals_of new) outcome (round_of k) gave counts
                   (leads others later stood) behind);
               results = results before.came before.results;
             };
@@ -372,7 +372,7 @@ module _ (done : ℕ) (old mid : Running) (result : ℕ) (l0 l1 l2 : Option (Lis
 
   -- a receive that failed
   pub rounds_lost : Grew l1 l2 (Receive Failed ∷ []) → ReceiptCounts Failed lf1 lf2
-      → Rounds (done + 1) old (record mid { totals = with_lost mid.totals }) result l0 l2 c0 c1 k0 k1 o0 o1 lf0 lf2 cf0 cf1 kf0 kf1 of0 of1
+      → Rounds (done + 1) old (record mid { totals = with_lost mid.totals }) result words entropy disk l0 l2 c0 c1 k0 k1 o0 o1 lf0 lf2 cf0 cf1 kf0 kf1 of0 of1
   rounds_lost gave counts =
       let one = one_left 16 done was.left below was.sum in
       let k = one.0 in
@@ -386,7 +386,7 @@ module _ (done : ℕ) (old mid : Running) (result : ℕ) (l0 l1 l2 : Option (Lis
             record {
               came = before.came ++ [];
               step = rounded_then k history old mid _ _ _ (member_of mid) (with_lost mid.totals) Done result (round_of k) [] before
-                  (λ later stood. lost_step others (conf_of (member_of mid)) k later (member_of mid) l1 l2 c1 others.words k1 o1 lf1 lf2 (faults cf1 others.entropy_faults others.disk_faults kf1 of1) (kept_of old) (totals_of mid) refl stood gave counts);
+                  (λ later stood. lost_step others (conf_of (member_of mid)) k later (member_of mid) l1 l2 c1 words k1 o1 lf1 lf2 (faults cf1 entropy disk kf1 of1) (kept_of old) (totals_of mid) refl stood gave counts);
               results = rw append-nil before.results;
             };
       }
@@ -395,10 +395,10 @@ module _ (done : ℕ) (old mid : Running) (result : ℕ) (l0 l1 l2 : Option (Lis
   pub round_moved : (member : Member) (end : LifeEnd) (from : Addr) (bytes : List ℕ) (outcome : Outcome) (l3 : Option (List LinkCall)) (c2 : Option (List ClockCall)) (k2 o2 : Option (List ℕ)) (lf3 cf2 kf2 of2 : ℕ)
       → Grew l1 l2 (Receive (Got from bytes) ∷ []) → ReceiptCounts (Got from bytes) lf1 lf2
       → ((others : Seen) (history : History) → StandsForHistory (member_of mid) history
-      → TakesTo (conf_of (member_of mid)) history (λ time. Arrive time from bytes) (living others l2 c1 others.words k1 o1 lf2 (faults cf1 others.entropy_faults others.disk_faults kf1 of1))
-      (living others l3 c2 others.words k2 o2 lf3 (faults cf2 others.entropy_faults others.disk_faults kf2 of2)) member (totals_of mid) end outcome)
+      → TakesTo (conf_of (member_of mid)) history (λ time. Arrive time from bytes) (living others l2 c1 words k1 o1 lf2 (faults cf1 entropy disk kf1 of1))
+      (living others l3 c2 words k2 o2 lf3 (faults cf2 entropy disk kf2 of2)) member (totals_of mid) end outcome)
       → is_moved outcome ≡ true → (others : Seen) (history : History) → StandsForHistory (member_of old) history
-      → RoundAnswers (conf_of (member_of old)) history (living others l0 c0 others.words k0 o0 lf0 (faults cf0 others.entropy_faults others.disk_faults kf0 of0)) (living others l3 c2 others.words k2 o2 lf3 (faults cf2 others.entropy_faults others.disk_faults kf2 of2))
+      → RoundAnswers (conf_of (member_of old)) history (living others l0 c0 words k0 o0 lf0 (faults cf0 entropy disk kf0 of0)) (living others l3 c2 words k2 o2 lf3 (faults cf2 entropy disk kf2 of2))
       member (kept_of old) (totals_of old) end (Ok 0)
   round_moved member end from bytes outcome l3 c2 k2 o2 lf3 cf2 kf2 of2 gave counts leads moved others history stands =
       let one = one_left 16 done was.left below was.sum in
@@ -408,14 +408,14 @@ module _ (done : ℕ) (old mid : Running) (result : ℕ) (l0 l1 l2 : Option (Lis
       answers_ok (conf_of (member_of old)) history _ _ member (kept_of old) (totals_of old) end (before.came ++ outcome ∷ []) 0
       (rounded_then k history old mid _ _ _ member end Done result Call (outcome ∷ []) before
       (λ later stood.
-      got_step others (conf_of (member_of mid)) k later member from bytes l1 l2 c1 others.words k1 o1 lf1 lf2 (faults cf1 others.entropy_faults others.disk_faults kf1 of1)
-      (living others l3 c2 others.words k2 o2 lf3 (faults cf2 others.entropy_faults others.disk_faults kf2 of2)) (kept_of old) (totals_of mid) end outcome Call gave counts
+      got_step others (conf_of (member_of mid)) k later member from bytes l1 l2 c1 words k1 o1 lf1 lf2 (faults cf1 entropy disk kf1 of1)
+      (living others l3 c2 words k2 o2 lf3 (faults cf2 entropy disk kf2 of2)) (kept_of old) (totals_of mid) end outcome Call gave counts
       (leads others later stood) behind))
       (results_moved before.came outcome result before.results moved)
 
   -- and so does a quiet receipt
   pub round_quiet_at : Grew l1 l2 (Receive Quiet ∷ []) → ReceiptCounts Quiet lf1 lf2 → (others : Seen) (history : History) → StandsForHistory (member_of old) history
-      → RoundAnswers (conf_of (member_of old)) history (living others l0 c0 others.words k0 o0 lf0 (faults cf0 others.entropy_faults others.disk_faults kf0 of0)) (living others l2 c1 others.words k1 o1 lf2 (faults cf1 others.entropy_faults others.disk_faults kf1 of1))
+      → RoundAnswers (conf_of (member_of old)) history (living others l0 c0 words k0 o0 lf0 (faults cf0 entropy disk kf0 of0)) (living others l2 c1 words k1 o1 lf2 (faults cf1 entropy disk kf1 of1))
       (member_of mid) (kept_of old) (totals_of old) (with_quiet (totals_of mid)) (Ok result)
   round_quiet_at gave counts others history stands =
       let one = one_left 16 done was.left below was.sum in
@@ -423,17 +423,17 @@ module _ (done : ℕ) (old mid : Running) (result : ℕ) (l0 l1 l2 : Option (Lis
       let before = earlier k one.1 others history stands in
       answers_ok (conf_of (member_of old)) history _ _ (member_of mid) (kept_of old) (totals_of old) (with_quiet (totals_of mid)) (before.came ++ []) result
       (rounded_then k history old mid _ _ _ (member_of mid) (with_quiet (totals_of mid)) Done result Call [] before
-      (λ later stood. quiet_step others (conf_of (member_of mid)) k later (member_of mid) l1 l2 c1 others.words k1 o1 lf1 lf2 (faults cf1 others.entropy_faults others.disk_faults kf1 of1) (kept_of old) (totals_of mid) refl stood gave counts))
+      (λ later stood. quiet_step others (conf_of (member_of mid)) k later (member_of mid) l1 l2 c1 words k1 o1 lf1 lf2 (faults cf1 entropy disk kf1 of1) (kept_of old) (totals_of mid) refl stood gave counts))
       (rw append-nil before.results.is)
 
   -- an arrival whose taking ends the run
   pub round_fault : (member : Member) (end : LifeEnd) (why : Why) (from : Addr) (bytes : List ℕ) (l3 : Option (List LinkCall)) (c2 : Option (List ClockCall)) (k2 o2 : Option (List ℕ)) (lf3 cf2 kf2 of2 : ℕ) → why ≢ Done
       → Grew l1 l2 (Receive (Got from bytes) ∷ []) → ReceiptCounts (Got from bytes) lf1 lf2
       → ((others : Seen) (history : History) → StandsForHistory (member_of mid) history
-      → TakesAt (conf_of (member_of mid)) history (λ time. Arrive time from bytes) (living others l2 c1 others.words k1 o1 lf2 (faults cf1 others.entropy_faults others.disk_faults kf1 of1))
-      (living others l3 c2 others.words k2 o2 lf3 (faults cf2 others.entropy_faults others.disk_faults kf2 of2)) member (totals_of mid) end why)
+      → TakesAt (conf_of (member_of mid)) history (λ time. Arrive time from bytes) (living others l2 c1 words k1 o1 lf2 (faults cf1 entropy disk kf1 of1))
+      (living others l3 c2 words k2 o2 lf3 (faults cf2 entropy disk kf2 of2)) member (totals_of mid) end why)
       → (others : Seen) (history : History) → StandsForHistory (member_of old) history
-      → RoundAnswers (conf_of (member_of old)) history (living others l0 c0 others.words k0 o0 lf0 (faults cf0 others.entropy_faults others.disk_faults kf0 of0)) (living others l3 c2 others.words k2 o2 lf3 (faults cf2 others.entropy_faults others.disk_faults kf2 of2))
+      → RoundAnswers (conf_of (member_of old)) history (living others l0 c0 words k0 o0 lf0 (faults cf0 entropy disk kf0 of0)) (living others l3 c2 words k2 o2 lf3 (faults cf2 entropy disk kf2 of2))
       member (kept_of old) (totals_of old) end (Err why)
   round_fault member end why from bytes l3 c2 k2 o2 lf3 cf2 kf2 of2 not gave counts takes others history stands =
       let one = one_left 16 done was.left below was.sum in
@@ -442,16 +442,16 @@ module _ (done : ℕ) (old mid : Running) (result : ℕ) (l0 l1 l2 : Option (Lis
       answers_err (conf_of (member_of old)) history _ _ member (kept_of old) (totals_of old) end (before.came ++ []) why
       (rounded_then k history old mid _ _ _ member end why result Call [] before
       (λ later stood.
-      fault_step others (conf_of (member_of mid)) k later member from bytes l1 l2 c1 others.words k1 o1 lf1 lf2 (faults cf1 others.entropy_faults others.disk_faults kf1 of1)
-      (living others l3 c2 others.words k2 o2 lf3 (faults cf2 others.entropy_faults others.disk_faults kf2 of2)) (kept_of old) (totals_of mid) end why not gave counts (takes others later stood)))
+      fault_step others (conf_of (member_of mid)) k later member from bytes l1 l2 c1 words k1 o1 lf1 lf2 (faults cf1 entropy disk kf1 of1)
+      (living others l3 c2 words k2 o2 lf3 (faults cf2 entropy disk kf2 of2)) (kept_of old) (totals_of mid) end why not gave counts (takes others later stood)))
 
 -- all 16 receipts were taken
-pub round_over : (done : ℕ) (old new : Running) (result : ℕ) (l0 l1 : Option (List LinkCall)) (c0 c1 : Option (List ClockCall)) (k0 k1 o0 o1 : Option (List ℕ)) (lf0 lf1 cf0 cf1 kf0 kf1 of0 of1 : ℕ) → done ≡ 16
-    → Rounds done old new result l0 l1 c0 c1 k0 k1 o0 o1 lf0 lf1 cf0 cf1 kf0 kf1 of0 of1
+pub round_over : (done : ℕ) (old new : Running) (result : ℕ) (words : Option (List ℕ)) (entropy disk : ℕ) (l0 l1 : Option (List LinkCall)) (c0 c1 : Option (List ClockCall)) (k0 k1 o0 o1 : Option (List ℕ)) (lf0 lf1 cf0 cf1 kf0 kf1 of0 of1 : ℕ) → done ≡ 16
+    → Rounds done old new result words entropy disk l0 l1 c0 c1 k0 k1 o0 o1 lf0 lf1 cf0 cf1 kf0 kf1 of0 of1
     → (others : Seen) (history : History) → StandsForHistory (member_of old) history
-    → RoundAnswers (conf_of (member_of old)) history (living others l0 c0 others.words k0 o0 lf0 (faults cf0 others.entropy_faults others.disk_faults kf0 of0)) (living others l1 c1 others.words k1 o1 lf1 (faults cf1 others.entropy_faults others.disk_faults kf1 of1))
+    → RoundAnswers (conf_of (member_of old)) history (living others l0 c0 words k0 o0 lf0 (faults cf0 entropy disk kf0 of0)) (living others l1 c1 words k1 o1 lf1 (faults cf1 entropy disk kf1 of1))
     (member_of new) (kept_of old) (totals_of old) (totals_of new) (Ok result)
-round_over done old new result l0 l1 c0 c1 k0 k1 o0 o1 lf0 lf1 cf0 cf1 kf0 kf1 of0 of1 all was others history stands =
-    let P : ℕ → Type 0 = λ (left : ℕ). Rounded left history old new (living others l0 c0 others.words k0 o0 lf0 (faults cf0 others.entropy_faults others.disk_faults kf0 of0)) (living others l1 c1 others.words k1 o1 lf1 (faults cf1 others.entropy_faults others.disk_faults kf1 of1)) result in
+round_over done old new result words entropy disk l0 l1 c0 c1 k0 k1 o0 o1 lf0 lf1 cf0 cf1 kf0 kf1 of0 of1 all was others history stands =
+    let P : ℕ → Type 0 = λ (left : ℕ). Rounded left history old new (living others l0 c0 words k0 o0 lf0 (faults cf0 entropy disk kf0 of0)) (living others l1 c1 words k1 o1 lf1 (faults cf1 entropy disk kf1 of1)) result in
     let last = subst P (let empty : was.left ≡ 0 = omega (arith, was.sum, all) in empty) (was.round others history stands) in
     answers_ok (conf_of (member_of old)) history _ _ (member_of new) (kept_of old) (totals_of old) (totals_of new) last.came result last.step last.results.is

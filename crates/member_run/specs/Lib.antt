@@ -1,4 +1,5 @@
 pub mod Asking
+pub mod Borrowing
 pub mod Closing
 pub mod Reserving
 pub mod Running

@@ -33,15 +33,6 @@ abbrev pub writing : Seen → Option (List ℕ) → Option (List ℕ) → (captu
 writing others capture out capture_faults write_faults =
     record others { capture = capture; capture_faults = capture_faults; written = out; write_faults = write_faults }
 
--- what the devices tell where link, clock and the two sinks tell this
-abbrev pub taking : Seen → Option (List LinkCall) → Option (List ClockCall) → Option (List ℕ) → Option (List ℕ) → (link_faults clock_faults capture_faults write_faults : ℕ) → Seen
-taking others link clock capture out link_faults clock_faults capture_faults write_faults = record (writing others capture out capture_faults write_faults) {
-  link = link;
-  link_faults = link_faults;
-  clock = clock;
-  clock_faults = clock_faults;
-}
-
 -- what taking an event answers: only a sink may fail in it
 abbrev pub TakeEnds : Why → Ending → Faults → Faults → Type 0
 TakeEnds Done ending before now = IsWhole ending × (now ≡ before)

@@ -1,4 +1,4 @@
-//! What a run asks of its devices, with their failures as the answers of the run.
+//! The devices of a run, and what it asks of them, with their failures as the answers of the run.
 ghost use Rattle.std.specs.Prelude.{◌≡◌, ◌<◌, Err, IfOk, OnErr, length};
 ghost use Rattle.base_specs.specs.Time.{IsReading};
 ghost use Rattle.capture_fmt.specs.Event.{EventFits};
@@ -9,9 +9,42 @@ ghost use Rattle.run_deeds.specs.Parts.{why_of};
 ghost use Rattle.member_run.specs.Asking.{DrawnBy, ReadBy, WrittenBy, ended_by};
 
 use capture_fmt::{Event, write_event};
-use edge_traits::{Clock, Drawn, Entropy, Put, Reading, Sink};
+use edge_traits::{Clock, Drawn, Entropy, Link, Put, Reading, Sink};
 use run_deeds::Why;
+use slot_disk::Disk;
 use sntp_core::{Outcome, line_of};
+
+/// The devices of a run, borrowed for a part of it. The two sinks are of one type, and told apart here alone.
+#[derive(Drop)]
+pub(crate) struct Devices<'l, 'c, 'd, 'e, 'o, 'k, L: Link, C: Clock, D: Disk, E: Entropy, O: Sink> {
+    pub(crate) link: &'l mut L,
+    pub(crate) clock: &'c mut C,
+    pub(crate) disk: &'d mut D,
+    pub(crate) entropy: &'e mut E,
+    /// Where the lines of the report go.
+    pub(crate) out: &'o mut O,
+    /// Where the records of the capture go.
+    pub(crate) capture: &'k mut O,
+}
+
+/// What the devices of a run tell at a moment.
+pub(crate) trait Tells {
+    ghost use Rattle.edge_seen.specs.Seen.{Seen};
+
+    /// What is told where the other devices of the program tell what they do, by all but the disk.
+    ghost seen: { Seen → Self → Seen };
+}
+
+impl<'l, 'c, 'd, 'e, 'o, 'k, L: Link, C: Clock, D: Disk, E: Entropy, O: Sink> Tells
+    for Devices<'l, 'c, 'd, 'e, 'o, 'k, L, C, D, E, O> {
+    ghost use Rattle.edge_seen.specs.Seen.{Seen};
+    ghost use Rattle.run_deeds.specs.Devices.{faults, living};
+
+    ghost seen = { λ others d. living others (L.told d.link.now) (C.told d.clock.now)
+        (E.words d.entropy.now) (O.written d.capture.now) (O.written d.out.now) (L.faults d.link.now)
+        (faults (C.faults d.clock.now) (E.faults d.entropy.now) (D.faults d.disk.now)
+        (O.faults d.capture.now) (O.faults d.out.now)) };
+}
 
 /// Reads the clock.
 pub(crate) fn read<C: Clock>(clock: &mut C) -> Result<i64, Why>

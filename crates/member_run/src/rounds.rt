@@ -3,7 +3,7 @@ ghost use Rattle.std.specs.Prelude.{◌≡◌};
 ghost use Rattle.run_deeds.specs.Rounds.{is_moved, is_too_big};
 
 use crate::Running;
-use crate::devices::{draw, read};
+use crate::devices::{Devices, Tells, draw, read};
 use capture_fmt::Event;
 use edge_traits::{Clock, Entropy, Link, Receipt, Sink};
 use run_deeds::Why;
@@ -41,7 +41,7 @@ impl Running {
     ghost use Rattle.member_run.specs.Running.{CallsWhereDue, IsBegun, IsGoing, IsOfReceipt};
     ghost use Rattle.member_run.specs.Running.{IsPart, IsUsedUp, RisesWhereDue, SendsNone};
     ghost use Rattle.member_run.specs.Running.{greatest_of, kept_of, member_of, totals_of};
-    ghost use Rattle.member_run.specs.Taking.{taking};
+    ghost use Rattle.member_run.specs.Borrowing.{SameBorrows};
 
     /// A request that was asked for, with these flags. Where `wait` is not 0, a round of at most 16 receipts follows,
     /// which an accepted arrival or a quiet receipt ends. The result is 0 where `wait` is 0 or the flags lack 2, and
@@ -84,11 +84,19 @@ impl Running {
         ensures covers { Covers (D.told disk.new) (greatest_of self.new) }
         ensures never { (IsErrOf result Why.Done → ⊥) × (IsErrOf result Why.BadVersion → ⊥) }
     {
-        self.request(flags, link, clock, disk, entropy, out, capture)?;
+        let mut devices = Devices {
+            link,
+            clock,
+            disk,
+            entropy,
+            out,
+            capture,
+        };
+        self.request(flags, &mut devices)?;
         if wait == 0 {
             return Ok(DONE);
         }
-        let result = self.round(link, clock, out, capture)?;
+        let result = self.round(&mut devices)?;
         Ok(if flags & WITH_RESULT == 0 {
             DONE
         } else {
@@ -97,70 +105,55 @@ impl Running {
     }
 
     /// A reading and a word make a Resync, which is taken.
-    fn request<L: Link, C: Clock, D: Disk, E: Entropy, O: Sink>(
+    fn request<'l, 'c, 'd, 'e, 'o, 'k, L: Link, C: Clock, D: Disk, E: Entropy, O: Sink>(
         &mut self,
         flags: u32,
-        link: &mut L,
-        clock: &mut C,
-        disk: &mut D,
-        entropy: &mut E,
-        out: &mut O,
-        capture: &mut O,
+        devices: &mut Devices<'l, 'c, 'd, 'e, 'o, 'k, L, C, D, E, O>,
     ) -> Result<(), Why>
-        requires going { IsGoing (D.told disk.old) self.old }
-        ensures part { (others : Seen) (wait : ℕ)
+        requires going { IsGoing (D.told devices.old.disk.now) self.old }
+        ensures borrows { SameBorrows devices.old devices.new }
+        ensures part { let seen = ⟦<Devices<'l, 'c, 'd, 'e, 'o, 'k, L, C, D, E, O> as Tells>⟧.seen in
+            (others : Seen) (wait : ℕ)
             → IsPart self.old self.new (CallReading wait flags) (behind_request wait)
-            (living others (L.told link.old) (C.told clock.old) (E.words entropy.old) (O.written capture.old)
-            (O.written out.old) (L.faults link.old)
-            (faults (C.faults clock.old) (E.faults entropy.old) (D.faults disk.old)
-            (O.faults capture.old) (O.faults out.old)))
-            (living others (L.told link.new) (C.told clock.new) (E.words entropy.new) (O.written capture.new)
-            (O.written out.new) (L.faults link.new)
-            (faults (C.faults clock.new) (E.faults entropy.new) (D.faults disk.new)
-            (O.faults capture.new) (O.faults out.new)))
+            (seen others devices.old)
+            (seen others devices.new)
             (why_of result) }
-        ensures going { OnOk result (IsGoing (D.told disk.new) self.new) }
+        ensures going { OnOk result (IsGoing (D.told devices.new.disk.now) self.new) }
         ensures disk { IsErrOf result Why.DiskFault → IsUsedUp self.old }
         ensures spent { IsErrOf result Why.StampsSpent
             ↔ (IsUsedUp self.old × (4294967231 < kept_of self.old)) }
-        ensures spent_still { IsErrOf result Why.StampsSpent → disk.new ≡ disk.old }
-        ensures calls { CallsWhereDue self.old (D.told disk.old) (D.told disk.new) }
-        ensures least { KeepsMarks (D.told disk.old) (D.told disk.new) }
-        ensures most { RisesWhereDue self.old (D.told disk.old) (D.told disk.new) }
-        ensures unused { LeavesOnly (D.told disk.old) (D.told disk.new) (KeepsUnused (D.told disk.old)) }
-        ensures still_loads { KeepsLoadable (D.told disk.old) (D.told disk.new) }
-        ensures covers { Covers (D.told disk.new) (greatest_of self.new) }
+        ensures spent_still { IsErrOf result Why.StampsSpent → devices.new.disk.now ≡ devices.old.disk.now }
+        ensures calls { CallsWhereDue self.old (D.told devices.old.disk.now) (D.told devices.new.disk.now) }
+        ensures least { KeepsMarks (D.told devices.old.disk.now) (D.told devices.new.disk.now) }
+        ensures most { RisesWhereDue self.old (D.told devices.old.disk.now) (D.told devices.new.disk.now) }
+        ensures unused { LeavesOnly (D.told devices.old.disk.now) (D.told devices.new.disk.now)
+            (KeepsUnused (D.told devices.old.disk.now)) }
+        ensures still_loads { KeepsLoadable (D.told devices.old.disk.now) (D.told devices.new.disk.now) }
+        ensures covers { Covers (D.told devices.new.disk.now) (greatest_of self.new) }
         ensures never { (IsErrOf result Why.Done → ⊥) × (IsErrOf result Why.BadVersion → ⊥) }
     {
-        self.ensure_count(disk)?;
-        let now = read(clock)?;
-        let word = draw(entropy)?;
-        self.take(
-            &Event::Resync { now, word, flags },
-            link,
-            clock,
-            out,
-            capture,
-        )?;
+        self.ensure_count(devices.disk)?;
+        let now = read(devices.clock)?;
+        let word = draw(devices.entropy)?;
+        self.take(&Event::Resync { now, word, flags }, devices)?;
         Ok(())
     }
 
     /// The round of a call, and its result.
-    fn round<L: Link, C: Clock, O: Sink>(
+    fn round<'l, 'c, 'd, 'e, 'o, 'k, L: Link, C: Clock, D: Disk, E: Entropy, O: Sink>(
         &mut self,
-        link: &mut L,
-        clock: &mut C,
-        out: &mut O,
-        capture: &mut O,
+        devices: &mut Devices<'l, 'c, 'd, 'e, 'o, 'k, L, C, D, E, O>,
     ) -> Result<u32, Why>
         requires begun { IsBegun self.old }
-        ensures round { (others : Seen) (history : History)
+        ensures borrows { SameBorrows devices.old devices.new }
+        ensures disk_alone { devices.new.disk ≡ devices.old.disk }
+        ensures entropy_alone { devices.new.entropy ≡ devices.old.entropy }
+        ensures round { let seen = ⟦<Devices<'l, 'c, 'd, 'e, 'o, 'k, L, C, D, E, O> as Tells>⟧.seen in
+            (others : Seen) (history : History)
             → StandsForHistory (member_of self.old) history
             → RoundAnswers (conf_of (member_of self.old)) history
-            (taking others (L.told link.old) (C.told clock.old) (O.written capture.old) (O.written out.old)
-            (L.faults link.old) (C.faults clock.old) (O.faults capture.old) (O.faults out.old))
-            (taking others (L.told link.new) (C.told clock.new) (O.written capture.new) (O.written out.new)
-            (L.faults link.new) (C.faults clock.new) (O.faults capture.new) (O.faults out.new))
+            (seen others devices.old)
+            (seen others devices.new)
             (member_of self.new) (kept_of self.old) (totals_of self.old)
             (totals_of self.new) result }
         ensures begun { OnOk result (IsBegun self.new) }
@@ -169,9 +162,9 @@ impl Running {
     {
         let mut result = NO_DATA;
         for _ in 0..ROUND {
-            match link.recv() {
+            match devices.link.recv() {
                 Receipt::Got(from, bytes) => {
-                    let outcome = self.arrive(from, bytes, link, clock, out, capture)?;
+                    let outcome = self.arrive(from, bytes, devices)?;
                     if is_moved(&outcome) {
                         return Ok(DONE);
                     }

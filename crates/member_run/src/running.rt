@@ -1,6 +1,6 @@
 //! A run between two calls.
 use crate::closing::write_closing_lines;
-use crate::devices::{draw, read};
+use crate::devices::{Devices, Tells, draw, read};
 use crate::reserving::load;
 use capture_fmt::Event;
 use edge_traits::{Addr, Clock, Datagram, Entropy, Link, Receipt, Sink};
@@ -45,7 +45,8 @@ impl Running {
     ghost use Rattle.member_run.specs.Running.{greatest_of, kept_of, member_of, totals_of};
     ghost use Rattle.member_run.specs.Closing.{Closes};
     ghost use Rattle.member_run.specs.Reserving.{IsLoadedFrom};
-    ghost use Rattle.member_run.specs.Taking.{TakesAt, TakesTo, taking};
+    ghost use Rattle.member_run.specs.Taking.{TakesAt, TakesTo};
+    ghost use Rattle.member_run.specs.Borrowing.{SameBorrows};
     ghost use Rattle.member_run.specs.Starting.{Begins, IsOfStart, starting};
 
     /// The first part of a run: the keeper is loaded, the clock is read, and the Life is taken, whose mark is what the
@@ -144,9 +145,17 @@ impl Running {
         ensures covers { Covers (D.told disk.new) (greatest_of self.new) }
         ensures never { (IsErrOf result Why.Done → ⊥) × (IsErrOf result Why.BadVersion → ⊥) }
     {
-        self.tick(link, clock, disk, entropy, out, capture)?;
-        let receipt = link.recv();
-        self.receive(receipt, link, clock, out, capture)
+        let mut devices = Devices {
+            link,
+            clock,
+            disk,
+            entropy,
+            out,
+            capture,
+        };
+        self.tick(&mut devices)?;
+        let receipt = devices.link.recv();
+        self.receive(receipt, &mut devices)
     }
 
     /// The place in rank, from 0, of the partner whose reply was last accepted in this run.
@@ -165,66 +174,57 @@ impl Running {
     }
 
     /// The first part of a turn, up to the receipt.
-    pub(crate) fn tick<L: Link, C: Clock, D: Disk, E: Entropy, O: Sink>(
+    pub(crate) fn tick<'l, 'c, 'd, 'e, 'o, 'k, L: Link, C: Clock, D: Disk, E: Entropy, O: Sink>(
         &mut self,
-        link: &mut L,
-        clock: &mut C,
-        disk: &mut D,
-        entropy: &mut E,
-        out: &mut O,
-        capture: &mut O,
+        devices: &mut Devices<'l, 'c, 'd, 'e, 'o, 'k, L, C, D, E, O>,
     ) -> Result<(), Why>
-        requires going { IsGoing (D.told disk.old) self.old }
-        ensures part { (others : Seen) (left : ℕ) → IsPart self.old self.new (Turns (suc left)) (ReceiptNow left)
-            (living others (L.told link.old) (C.told clock.old) (E.words entropy.old) (O.written capture.old)
-            (O.written out.old) (L.faults link.old)
-            (faults (C.faults clock.old) (E.faults entropy.old) (D.faults disk.old)
-            (O.faults capture.old) (O.faults out.old)))
-            (living others (L.told link.new) (C.told clock.new) (E.words entropy.new) (O.written capture.new)
-            (O.written out.new) (L.faults link.new)
-            (faults (C.faults clock.new) (E.faults entropy.new) (D.faults disk.new)
-            (O.faults capture.new) (O.faults out.new)))
+        requires going { IsGoing (D.told devices.old.disk.now) self.old }
+        ensures borrows { SameBorrows devices.old devices.new }
+        ensures part { let seen = ⟦<Devices<'l, 'c, 'd, 'e, 'o, 'k, L, C, D, E, O> as Tells>⟧.seen in
+            (others : Seen) (left : ℕ) → IsPart self.old self.new (Turns (suc left)) (ReceiptNow left)
+            (seen others devices.old)
+            (seen others devices.new)
             (why_of result) }
-        ensures going { OnOk result (IsGoing (D.told disk.new) self.new) }
+        ensures going { OnOk result (IsGoing (D.told devices.new.disk.now) self.new) }
         ensures disk { IsErrOf result Why.DiskFault → IsUsedUp self.old }
         ensures spent { IsErrOf result Why.StampsSpent
             ↔ (IsUsedUp self.old × (4294967231 < kept_of self.old)) }
-        ensures spent_still { IsErrOf result Why.StampsSpent → disk.new ≡ disk.old }
-        ensures calls { CallsWhereDue self.old (D.told disk.old) (D.told disk.new) }
-        ensures least { KeepsMarks (D.told disk.old) (D.told disk.new) }
-        ensures most { RisesWhereDue self.old (D.told disk.old) (D.told disk.new) }
-        ensures unused { LeavesOnly (D.told disk.old) (D.told disk.new) (KeepsUnused (D.told disk.old)) }
-        ensures still_loads { KeepsLoadable (D.told disk.old) (D.told disk.new) }
-        ensures covers { Covers (D.told disk.new) (greatest_of self.new) }
+        ensures spent_still { IsErrOf result Why.StampsSpent → devices.new.disk.now ≡ devices.old.disk.now }
+        ensures calls { CallsWhereDue self.old (D.told devices.old.disk.now) (D.told devices.new.disk.now) }
+        ensures least { KeepsMarks (D.told devices.old.disk.now) (D.told devices.new.disk.now) }
+        ensures most { RisesWhereDue self.old (D.told devices.old.disk.now) (D.told devices.new.disk.now) }
+        ensures unused { LeavesOnly (D.told devices.old.disk.now) (D.told devices.new.disk.now)
+            (KeepsUnused (D.told devices.old.disk.now)) }
+        ensures still_loads { KeepsLoadable (D.told devices.old.disk.now) (D.told devices.new.disk.now) }
+        ensures covers { Covers (D.told devices.new.disk.now) (greatest_of self.new) }
         ensures never { (IsErrOf result Why.Done → ⊥) × (IsErrOf result Why.BadVersion → ⊥) }
     {
-        self.ensure_count(disk)?;
-        let now = read(clock)?;
-        let word = draw(entropy)?;
-        self.take(&Event::Tick { now, word }, link, clock, out, capture)?;
+        self.ensure_count(devices.disk)?;
+        let now = read(devices.clock)?;
+        let word = draw(devices.entropy)?;
+        self.take(&Event::Tick { now, word }, devices)?;
         Ok(())
     }
 
     /// A receipt of a turn, which the link gave at its last call: what arrived in it is taken, and any other is counted.
-    pub(crate) fn receive<L: Link, C: Clock, O: Sink>(
+    pub(crate) fn receive<'l, 'c, 'd, 'e, 'o, 'k, L: Link, C: Clock, D: Disk, E: Entropy, O: Sink>(
         &mut self,
         receipt: Receipt,
-        link: &mut L,
-        clock: &mut C,
-        out: &mut O,
-        capture: &mut O,
+        devices: &mut Devices<'l, 'c, 'd, 'e, 'o, 'k, L, C, D, E, O>,
     ) -> Result<(), Why>
         requires begun { IsBegun self.old }
         requires fits { ReceiptFits receipt }
-        ensures part { (others : Seen) (left : ℕ)
+        ensures borrows { SameBorrows devices.old devices.new }
+        ensures disk_alone { devices.new.disk ≡ devices.old.disk }
+        ensures entropy_alone { devices.new.entropy ≡ devices.old.entropy }
+        ensures part { let seen = ⟦<Devices<'l, 'c, 'd, 'e, 'o, 'k, L, C, D, E, O> as Tells>⟧.seen in
+            (others : Seen) (left : ℕ)
             (told : Option (List LinkCall)) (faults_told : ℕ)
-            → Grew told (L.told link.old) (Receive receipt ∷ [])
-            → ReceiptCounts receipt faults_told (L.faults link.old)
+            → Grew told (L.told devices.old.link.now) (Receive receipt ∷ [])
+            → ReceiptCounts receipt faults_told (L.faults devices.old.link.now)
             → IsPart self.old self.new (ReceiptNow left) (Turns left)
-            (taking others told (C.told clock.old) (O.written capture.old) (O.written out.old)
-            faults_told (C.faults clock.old) (O.faults capture.old) (O.faults out.old))
-            (taking others (L.told link.new) (C.told clock.new) (O.written capture.new) (O.written out.new)
-            (L.faults link.new) (C.faults clock.new) (O.faults capture.new) (O.faults out.new))
+            (record (seen others devices.old) { link = told; link_faults = faults_told })
+            (seen others devices.new)
             (why_of result) }
         ensures begun { OnOk result (IsBegun self.new) }
         ensures sends_none { SendsNone self.old self.new }
@@ -232,7 +232,7 @@ impl Running {
     {
         match receipt {
             Receipt::Got(from, bytes) => {
-                self.arrive(from, bytes, link, clock, out, capture)?;
+                self.arrive(from, bytes, devices)?;
                 Ok(())
             }
             Receipt::Quiet => {
@@ -247,46 +247,38 @@ impl Running {
     }
 
     /// A datagram that was received: with the next reading it makes an Arrive, which is taken.
-    pub(crate) fn arrive<L: Link, C: Clock, O: Sink>(
+    pub(crate) fn arrive<'l, 'c, 'd, 'e, 'o, 'k, L: Link, C: Clock, D: Disk, E: Entropy, O: Sink>(
         &mut self,
         from: Addr,
         bytes: Datagram,
-        link: &mut L,
-        clock: &mut C,
-        out: &mut O,
-        capture: &mut O,
+        devices: &mut Devices<'l, 'c, 'd, 'e, 'o, 'k, L, C, D, E, O>,
     ) -> Result<Outcome, Why>
         requires begun { IsBegun self.old }
         requires fits { ReceiptFits (Receipt.Got from bytes) }
-        ensures takes { (others : Seen) (history : History)
+        ensures borrows { SameBorrows devices.old devices.new }
+        ensures disk_alone { devices.new.disk ≡ devices.old.disk }
+        ensures entropy_alone { devices.new.entropy ≡ devices.old.entropy }
+        ensures takes { let seen = ⟦<Devices<'l, 'c, 'd, 'e, 'o, 'k, L, C, D, E, O> as Tells>⟧.seen in
+            (others : Seen) (history : History)
             → StandsForHistory (member_of self.old) history
             → TakesAt (conf_of (member_of self.old)) history (λ now. Event.Arrive now from bytes)
-            (taking others (L.told link.old) (C.told clock.old) (O.written capture.old) (O.written out.old)
-            (L.faults link.old) (C.faults clock.old) (O.faults capture.old) (O.faults out.old))
-            (taking others (L.told link.new) (C.told clock.new) (O.written capture.new) (O.written out.new)
-            (L.faults link.new) (C.faults clock.new) (O.faults capture.new) (O.faults out.new))
+            (seen others devices.old)
+            (seen others devices.new)
             (member_of self.new) (totals_of self.old) (totals_of self.new) (why_of result) }
         // The answer is what it led to.
-        ensures outcome { IfOk result (λ outcome. (others : Seen)
+        ensures outcome { let seen = ⟦<Devices<'l, 'c, 'd, 'e, 'o, 'k, L, C, D, E, O> as Tells>⟧.seen in
+            IfOk result (λ outcome. (others : Seen)
             (history : History) → StandsForHistory (member_of self.old) history
             → TakesTo (conf_of (member_of self.old)) history (λ now. Event.Arrive now from bytes)
-            (taking others (L.told link.old) (C.told clock.old) (O.written capture.old) (O.written out.old)
-            (L.faults link.old) (C.faults clock.old) (O.faults capture.old) (O.faults out.old))
-            (taking others (L.told link.new) (C.told clock.new) (O.written capture.new) (O.written out.new)
-            (L.faults link.new) (C.faults clock.new) (O.faults capture.new) (O.faults out.new))
+            (seen others devices.old)
+            (seen others devices.new)
             (member_of self.new) (totals_of self.old) (totals_of self.new) outcome) }
         ensures begun { IsBegun self.new }
         ensures sends_none { SendsNone self.old self.new }
         ensures never { IfErr result IsOfReceipt }
     {
-        let now = read(clock)?;
-        self.take(
-            &Event::Arrive { now, from, bytes },
-            link,
-            clock,
-            out,
-            capture,
-        )
+        let now = read(devices.clock)?;
+        self.take(&Event::Arrive { now, from, bytes }, devices)
     }
 
     /// The closing lines of a run.

@@ -1,10 +1,11 @@
 //! Taking events.
 
 use crate::Running;
-use crate::devices::{write_line, write_record};
+use crate::devices::{Devices, Tells, write_line, write_record};
 use capture_fmt::Event;
-use edge_traits::{Addr, Clock, Datagram, Link, Put, Sink};
+use edge_traits::{Addr, Clock, Datagram, Entropy, Link, Put, Sink};
 use run_deeds::Why;
+use slot_disk::Disk;
 use sntp_core::{How, Outcome};
 
 impl Running {
@@ -21,17 +22,15 @@ impl Running {
     ghost use Rattle.run_deeds.specs.Parts.{why_of};
     ghost use Rattle.member_run.specs.Asking.{WrittenBy};
     ghost use Rattle.member_run.specs.Taking.{Acts, IsCut, IsTaken, Sends, Steps, Takes};
-    ghost use Rattle.member_run.specs.Taking.{last_after, taking, writing};
+    ghost use Rattle.member_run.specs.Taking.{last_after, writing};
+    ghost use Rattle.member_run.specs.Borrowing.{SameBorrows};
 
     /// Takes an event: writes its record, steps the member, sends a request or corrects the clock, and prints the
     /// line. An event whose record could not be written is not taken.
-    pub(crate) fn take<L: Link, C: Clock, O: Sink>(
+    pub(crate) fn take<'l, 'c, 'd, 'e, 'o, 'k, L: Link, C: Clock, D: Disk, E: Entropy, O: Sink>(
         &mut self,
         event: &Event,
-        link: &mut L,
-        clock: &mut C,
-        out: &mut O,
-        capture: &mut O,
+        devices: &mut Devices<'l, 'c, 'd, 'e, 'o, 'k, L, C, D, E, O>,
     ) -> Result<Outcome, Why>
         requires admitted { MayFollow
             (conf_of self.old.member) (words_of self.old.member) event.now }
@@ -39,21 +38,23 @@ impl Running {
         requires read { IsRead event.now }
 
         // No other device is asked.
-        ensures takes { (others : Seen) (history : History)
+        ensures takes { let seen = ⟦<Devices<'l, 'c, 'd, 'e, 'o, 'k, L, C, D, E, O> as Tells>⟧.seen in
+            (others : Seen) (history : History)
             → StandsForHistory self.old.member history
             → Takes (conf_of self.old.member) history event.now []
-            (taking others (L.told link.old) (C.told clock.old) (O.written capture.old) (O.written out.old)
-            (L.faults link.old) (C.faults clock.old) (O.faults capture.old) (O.faults out.old))
-            (taking others (L.told link.new) (C.told clock.new) (O.written capture.new) (O.written out.new)
-            (L.faults link.new) (C.faults clock.new) (O.faults capture.new) (O.faults out.new))
+            (seen others devices.old)
+            (seen others devices.new)
             self.new.member self.old.totals self.new.totals (why_of result) }
+        ensures borrows { SameBorrows devices.old devices.new }
+        ensures disk_alone { devices.new.disk ≡ devices.old.disk }
+        ensures entropy_alone { devices.new.entropy ≡ devices.old.entropy }
         ensures taken { IfOk result (IsTaken self.old self.new event.now) }
         ensures cut { OnErr result (IsCut self.old self.new event.now) }
         ensures why { OnErr result (result ≡ Err Why.SinkFault) }
     {
-        let outcome = self.step(event, capture)?;
-        self.act(&outcome, link, clock);
-        write_line(&outcome, out)?;
+        let outcome = self.step(event, devices.capture)?;
+        self.act(&outcome, devices.link, devices.clock);
+        write_line(&outcome, devices.out)?;
         Ok(outcome)
     }
 

@@ -10,14 +10,15 @@ returns-clause-takes g c = λ others history stands.
     let gives = c.in_ok-now.ensures.gives in
     let read = to_z-of_z w64 c.in_ok-now.now (search rules) in
     let takes = rw read at c.take.ensures.takes others history stands in
-    takes_read others _ history (λ (now : ℤ). Arrive now c.args.from c.args.bytes) c.take.new.self.member _ _ _ others.words _ _ _ _ _ others.entropy_faults others.disk_faults _ _ _ _ _ _ c.in_ok-now.now gives.0 gives.1 takes
+    takes_read others _ history (λ (now : ℤ). Arrive now c.args.from c.args.bytes) c.take.new.self.member _ _ _ _ _ _ _ _ _ _ _ _ _ _ _ _ _ c.in_ok-now.now gives.0 gives.1 takes
 
 pub returns-clause-outcome : goal.returns-clause-outcome
 returns-clause-outcome g c =
     let gives = c.in_ok-now.ensures.gives in
     let read = to_z-of_z w64 c.in_ok-now.now (search rules) in
-    led_to c.take.result c.args.self.now c.take.new.self c.in_ok-now.now c.args.from c.args.bytes _ _ _ _ _ _ _ _ _ _ _ _ _ _ _ _ _ _ gives.0 gives.1
-    (rw read at c.take.ensures.takes) (rw read at c.take.ensures.taken)
+    rw (c.take.ensures.disk_alone, c.take.ensures.entropy_alone)
+    (led_to c.take.result c.args.self.now c.take.new.self c.in_ok-now.now c.args.from c.args.bytes _ _ _ _ _ _ _ _ _ _ _ _ _ _ _ _ _ _ _ _ _ gives.0 gives.1
+    (rw (read, c.take.ensures.disk_alone, c.take.ensures.entropy_alone) at c.take.ensures.takes) (rw read at c.take.ensures.taken))
 
 pub returns-clause-begun : goal.returns-clause-begun
 returns-clause-begun g c =

@@ -58,7 +58,7 @@ returns-in_err-take-clause-part g c =
     let kept = cut_keeper _ _ _ c.in_err-take.ensures.cut in
     rw (p.1, p.2, kept)
     (λ others wait history stands.
-    let takes = rw (time, member, totals) at c.in_err-take.ensures.takes (record others { words = g.E.Entropy.words c.draw.new.entropy; entropy_faults = g.E.Entropy.faults c.draw.new.entropy; disk_faults = g.D.Disk.faults c.ensure_count.new.disk }) history stands in
+    let takes = rw (time, member, totals) at c.in_err-take.ensures.takes others history stands in
     takes_drawn others _ (CallReading wait c.args.flags) (behind_request wait) history (Resync c.in_ok-now.now c.in_ok-word.word c.args.flags) c.take.new.self.member _ _ _ _ _ _ _ _ _ _ _ _ _ _ _ _ _ _ _ _ _ _ c.in_ok-now.now c.in_ok-word.word
     read.0 read.1 drew.1 drew.2 c.in_ok-ensure_count.ensures.cause takes (λ cs ls need s. call_reads (call_draws s))
     (call_behind c.in_ok-now.now c.in_ok-word.word c.args.flags wait)
@@ -74,7 +74,7 @@ returns-clause-part g c =
     let kept = ap kept_mark c.in_ok-take.ensures.taken.keeper in
     rw kept
     (λ others wait history stands.
-    let takes = rw (time, member, totals) at c.in_ok-take.ensures.takes (record others { words = g.E.Entropy.words c.draw.new.entropy; entropy_faults = g.E.Entropy.faults c.draw.new.entropy; disk_faults = g.D.Disk.faults c.ensure_count.new.disk }) history stands in
+    let takes = rw (time, member, totals) at c.in_ok-take.ensures.takes others history stands in
     takes_drawn others _ (CallReading wait c.args.flags) (behind_request wait) history (Resync c.in_ok-now.now c.in_ok-word.word c.args.flags) c.take.new.self.member _ _ _ _ _ _ _ _ _ _ _ _ _ _ _ _ _ _ _ _ _ _ c.in_ok-now.now c.in_ok-word.word
     read.0 read.1 drew.1 drew.2 c.in_ok-ensure_count.ensures.cause takes (λ cs ls need s. call_reads (call_draws s))
     (call_behind c.in_ok-now.now c.in_ok-word.word c.args.flags wait)
@@ -84,7 +84,8 @@ pub returns-clause-going : goal.returns-clause-going
 returns-clause-going g c =
     let time = to_z-of_z w64 c.in_ok-now.now (search rules) in
     let taken = rw time at c.in_ok-take.ensures.taken in
-    going_on _ c.ensure_count.new.self c.take.new.self (Resync c.in_ok-now.now c.in_ok-word.word c.args.flags) _ refl c.in_ok-ensure_count.ensures.going c.in_ok-ensure_count.ensures.room taken
+    rw c.in_ok-take.ensures.disk_alone
+    (going_on _ c.ensure_count.new.self c.take.new.self (Resync c.in_ok-now.now c.in_ok-word.word c.args.flags) _ refl c.in_ok-ensure_count.ensures.going c.in_ok-ensure_count.ensures.room taken)
 
 pub returns-in_err-ensure_count-clause-covers : goal.returns-in_err-ensure_count-clause-covers
 returns-in_err-ensure_count-clause-covers g c =
@@ -100,11 +101,13 @@ pub returns-in_err-take-clause-covers : goal.returns-in_err-take-clause-covers
 returns-in_err-take-clause-covers g c =
     let time = to_z-of_z w64 c.in_ok-now.now (search rules) in
     let cut = rw time at c.in_err-take.ensures.cut in
-    covers_cut _ c.ensure_count.new.self c.take.new.self (Resync c.in_ok-now.now c.in_ok-word.word c.args.flags) refl c.in_ok-ensure_count.ensures.going c.in_ok-ensure_count.ensures.room cut
+    rw c.in_err-take.ensures.disk_alone
+    (covers_cut _ c.ensure_count.new.self c.take.new.self (Resync c.in_ok-now.now c.in_ok-word.word c.args.flags) refl c.in_ok-ensure_count.ensures.going c.in_ok-ensure_count.ensures.room cut)
 
 pub returns-clause-covers : goal.returns-clause-covers
 returns-clause-covers g c =
     let time = to_z-of_z w64 c.in_ok-now.now (search rules) in
     let taken = rw time at c.in_ok-take.ensures.taken in
-    covers_going _ c.take.new.self
-    (going_on _ c.ensure_count.new.self c.take.new.self (Resync c.in_ok-now.now c.in_ok-word.word c.args.flags) _ refl c.in_ok-ensure_count.ensures.going c.in_ok-ensure_count.ensures.room taken)
+    rw c.in_ok-take.ensures.disk_alone
+    (covers_going _ c.take.new.self
+    (going_on _ c.ensure_count.new.self c.take.new.self (Resync c.in_ok-now.now c.in_ok-word.word c.args.flags) _ refl c.in_ok-ensure_count.ensures.going c.in_ok-ensure_count.ensures.room taken))

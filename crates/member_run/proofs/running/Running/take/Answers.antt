@@ -11,7 +11,7 @@ returns-in_err-outcome-clause-takes g c =
     let wrote = rw fault at c.in_err-outcome.ensures.record_bytes in
     rw (p.1, p.2, fault, c.in_err-outcome.ensures.err)
     (λ others history stands.
-    no_record others _ history c.args.event.now c.args.self.now.member _ _ others.words _ _ _ _ _ others.entropy_faults others.disk_faults _ _ _ c.args.self.now.totals refl stands c.requires.fits wrote)
+    no_record others _ history c.args.event.now c.args.self.now.member _ _ _ _ _ _ _ _ _ _ _ _ _ c.args.self.now.totals refl stands c.requires.fits wrote)
 
 pub returns-in_err-write_line-clause-takes : goal.returns-in_err-write_line-clause-takes
 returns-in_err-write_line-clause-takes g c =
@@ -19,7 +19,7 @@ returns-in_err-write_line-clause-takes g c =
     rw (p.1, p.2, c.act.ensures.clock)
     (λ others history stands.
     let step = c.in_ok-outcome.ensures.steps history stands in
-    takes_all others _ history c.args.event.now c.in_ok-outcome.outcome c.act.new.self.member _ _ _ _ others.words _ _ _ _ _ _ _ others.entropy_faults others.disk_faults _ _ _ _ _ _ _ _
+    takes_all others _ history c.args.event.now c.in_ok-outcome.outcome c.act.new.self.member _ _ _ _ _ _ _ _ _ _ _ _ _ _ _ _ _ _ _ _ _ _
     (rw c.act.ensures.same c.in_ok-outcome.ensures.conf) (rw c.act.ensures.same step.1) c.requires.fits step.0 c.in_ok-outcome.ensures.record_bytes
     c.in_ok-outcome.ensures.totals c.act.ensures.acts c.in_err-write_line.ensures.bytes (λ is. c.in_err-write_line.ensures.has_line))
 
@@ -28,6 +28,6 @@ returns-clause-takes g c =
     rw c.act.ensures.clock
     (λ others history stands.
     let step = c.in_ok-outcome.ensures.steps history stands in
-    takes_all others _ history c.args.event.now c.in_ok-outcome.outcome c.act.new.self.member _ _ _ _ others.words _ _ _ _ _ _ _ others.entropy_faults others.disk_faults _ _ _ _ _ _ _ _
+    takes_all others _ history c.args.event.now c.in_ok-outcome.outcome c.act.new.self.member _ _ _ _ _ _ _ _ _ _ _ _ _ _ _ _ _ _ _ _ _ _
     (rw c.act.ensures.same c.in_ok-outcome.ensures.conf) (rw c.act.ensures.same step.1) c.requires.fits step.0 c.in_ok-outcome.ensures.record_bytes
     c.in_ok-outcome.ensures.totals c.act.ensures.acts c.in_ok-write_line.ensures.bytes (λ is. absurd (let no : Done ≡ SinkFault = is in let bad : ⊥ = cc in bad)))
