@@ -1,7 +1,8 @@
 //! One call of a remote computer.
-ghost use Rattle.std.specs.Prelude.{◌≡◌, true};
+ghost use Rattle.std.specs.Prelude.{◌≡◌, true, IfOk};
 ghost use Rattle.w32t_calls.specs.Asking.{call_pdu};
 ghost use Rattle.w32t_calls.specs.Calling.{Asks, CallCounts};
+ghost use Rattle.w32t_calls.specs.Stubs.{AnswersCall};
 ghost use Rattle.client_run.specs.Asking.{AnswerIs, AskCounts, AsksOnce, Talks};
 
 use edge_traits::{Opened, Wire};
@@ -45,6 +46,9 @@ pub fn ask<W: Wire>(call: Call, wire: &mut W) -> Result<Given, AskFault>
     // One session is asked for. Its bytes decide the answer, how many of them are taken, and what is written.
     ensures asks { AsksOnce call result (W.told wire.old) (W.told wire.new) }
 
+    // An answer is one to this call.
+    ensures kind { IfOk result (λ given. AnswersCall given call) }
+
     // A count rises where its fault is answered, and nowhere else.
     ensures cause { AskCounts result (W.faults wire.old) (W.faults wire.new)
         (W.write_faults wire.old) (W.write_faults wire.new) }
@@ -60,6 +64,7 @@ pub fn ask<W: Wire>(call: Call, wire: &mut W) -> Result<Given, AskFault>
 fn ask_in<W: Wire>(call: Call, wire: &mut W) -> Result<Given, CallFault>
     requires open { W.is_open wire.old ≡ true }
     ensures talks { Talks call result (W.told wire.old) (W.told wire.new) }
+    ensures kind { IfOk result (λ given. AnswersCall given call) }
     ensures cause { CallCounts result (W.faults wire.old) (W.faults wire.new)
         (W.write_faults wire.old) (W.write_faults wire.new) }
 {
@@ -75,6 +80,7 @@ fn answer_to<W: Wire>(call: Call, caller: &mut Caller, wire: &mut W) -> Result<G
     ensures asks { Asks (call_pdu 2 call) (W.is_open wire.old) (W.told wire.old) (W.told wire.new)
         caller.old.reader caller.new.reader (result ≡ Err CallFault.WriteFault)
         (λ first. AnswerIs call caller.old.reader.place first result) }
+    ensures kind { IfOk result (λ given. AnswersCall given call) }
     ensures cause { CallCounts result (W.faults wire.old) (W.faults wire.new)
         (W.write_faults wire.old) (W.write_faults wire.new) }
 {
