@@ -47,8 +47,8 @@ pub(crate) fn expect_order(
     Ok(())
 }
 
-/// How a run ends of whose devices this one fails: a link ends none.
-fn status_of(device: Device, run: &Run) -> Status {
+/// How a run ends of whose devices this one fails at a call of this letter: a link ends none.
+fn status_of(device: Device, letter: u8, run: &Run) -> Status {
     match device {
         Device::Config | Device::Input => Status::ReadFault,
         Device::Out | Device::Capture => Status::WriteFault,
@@ -56,6 +56,8 @@ fn status_of(device: Device, run: &Run) -> Status {
         Device::Clock => Status::ClockFault,
         Device::Disk => Status::DiskFault,
         Device::Entropy => Status::EntropyFault,
+        Device::Wire if letter == b'p' => Status::WriteFault,
+        Device::Wire => Status::ReadFault,
     }
 }
 
@@ -68,7 +70,8 @@ fn expect_fault(
     word: &[u8],
     place: usize,
 ) -> Result<(), Fail> {
-    let Some((device, call)) = call_at(word, place) else {
+    let (Some((device, call)), Some(letter)) = (call_at(word, place), word.get(place).copied())
+    else {
         return Ok(());
     };
     let mut failing = run.script.failing.to_vec(alloc)?;
@@ -84,7 +87,7 @@ fn expect_fault(
     assert_eq!(rt;
         (ran.status, front, is_last),
         (
-            status_of(device, run),
+            status_of(device, letter, run),
             word.get(..end),
             device != Device::Link
         ),

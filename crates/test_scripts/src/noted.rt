@@ -1,7 +1,9 @@
 //! Devices that note in which order they are called.
 ghost use Rattle.std.specs.Prelude.{◌≡◌};
 
-use edge_io::{Addr, Clock, Drawn, Entropy, Link, Put, Reading, Receipt, Sink, Source, Take};
+use edge_io::{
+    Addr, Clock, Drawn, Entropy, Link, Opened, Put, Reading, Receipt, Sink, Source, Take, Wire,
+};
 use slot_disk::Disk;
 use std::alloc::Global;
 use std::cell::Cell;
@@ -133,5 +135,30 @@ impl<T: Disk> Disk for Noted<'_, T> {
     fn sync(&mut self) -> Put {
         self.note(b'y');
         self.inner.sync()
+    }
+}
+
+impl<T: Wire> Wire for Noted<'_, T> {
+    ghost told = { λ noted. T.told noted.inner };
+
+    ghost is_open = { λ noted. T.is_open noted.inner };
+
+    ghost faults = { λ noted. T.faults noted.inner };
+
+    ghost write_faults = { λ noted. T.write_faults noted.inner };
+
+    fn next_session(&mut self) -> Opened {
+        self.note(b'n');
+        self.inner.next_session()
+    }
+
+    fn read(&mut self, buf: &mut [u8]) -> Take {
+        self.note(b'h');
+        self.inner.read(buf)
+    }
+
+    fn write(&mut self, piece: &[u8]) -> Put {
+        self.note(b'p');
+        self.inner.write(piece)
     }
 }

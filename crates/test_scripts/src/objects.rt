@@ -1,11 +1,11 @@
 //! Devices in memory that do what a script says.
-ghost use Rattle.std.specs.Prelude.{◌<◌, All, IfOk};
+ghost use Rattle.std.specs.Prelude.{◌<◌, All, IfOk, length};
 ghost use Rattle.base_specs.specs.Time.{IsReading};
 ghost use Rattle.edge_io.specs.LinkScript.{IsNoFailure};
 
 use crate::{Came, Device};
 use edge_io::{
-    Datagram, Receipt, ScriptClock, ScriptEntropy, ScriptLink, ScriptSink, ScriptSource,
+    Datagram, Receipt, ScriptClock, ScriptEntropy, ScriptLink, ScriptSink, ScriptSource, ScriptWire,
 };
 use slot_disk::MemoryDisk;
 use std::alloc::{AllocError, Global};
@@ -19,6 +19,9 @@ const MOVE_ROOM: usize = 30;
 
 /// How many calls of a disk pass.
 const DISK_ROOM: usize = 100;
+
+/// How many answers a wire tells, and how many bytes can be written to each of its sessions.
+const WIRE_ROOM: usize = 300;
 
 /// The sizes among these that aren't 0.
 fn sizes_of(alloc: Global, numbers: &[usize]) -> Result<Vec<usize>, AllocError>
@@ -151,4 +154,44 @@ pub(crate) fn entropy_of(
     let fails = calls_of(alloc, failing, Device::Entropy)?;
     let entropy = ScriptEntropy::new(alloc, words, fails, 0)?;
     Ok(entropy)
+}
+
+/// These bytes in pieces of this size at most.
+fn pieces_of(alloc: Global, bytes: &[u8], size: usize) -> Result<Vec<Vec<u8>>, AllocError>
+    ensures { IfOk result (λ pieces. All (λ piece. 0 < length piece.items) pieces.items) }
+{
+    let mut pieces = Vec::new(alloc);
+    let mut rest = bytes;
+    while !rest.is_empty() {
+        let (piece, behind) = rest.split_at(size.clamp(1, rest.len()));
+        pieces.push(piece.to_vec(alloc)?)?;
+        rest = behind;
+    }
+    Ok(pieces)
+}
+
+/// Sessions of these bytes, each in pieces of this size at most.
+fn sessions_of(alloc: Global, all: &[&[u8]], size: usize) -> Result<Vec<Vec<Vec<u8>>>, AllocError>
+    ensures { IfOk result (λ sessions.
+        All (λ pieces. All (λ piece. 0 < length piece.items) pieces.items) sessions.items) }
+{
+    let mut sessions = Vec::new(alloc);
+    for bytes in all {
+        sessions.push(pieces_of(alloc, bytes, size)?)?;
+    }
+    Ok(sessions)
+}
+
+/// A wire of these sessions, of which some calls fail.
+pub(crate) fn wire_of(
+    alloc: Global,
+    sessions: &[&[u8]],
+    pieces: &[usize],
+    failing: &[(Device, u64)],
+) -> Result<ScriptWire, Fail> {
+    let size = pieces.first().copied().unwrap_or(1);
+    let sessions = sessions_of(alloc, sessions, size)?;
+    let fails = calls_of(alloc, failing, Device::Wire)?;
+    let wire = ScriptWire::new(alloc, sessions, fails, WIRE_ROOM)?;
+    Ok(wire)
 }

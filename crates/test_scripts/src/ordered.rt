@@ -2,7 +2,7 @@
 use crate::noted::{Call, Noted};
 use crate::running::{devices_of, words_of};
 use crate::{Device, Devices, Script};
-use edge_io::{ScriptClock, ScriptEntropy, ScriptLink, ScriptSink, ScriptSource};
+use edge_io::{ScriptClock, ScriptEntropy, ScriptLink, ScriptSink, ScriptSource, ScriptWire};
 use slot_disk::MemoryDisk;
 use std::alloc::{AllocError, Global};
 use std::cell::Cell;
@@ -17,6 +17,7 @@ type NotedDevices<'a> = Outside<
     Noted<'a, ScriptClock>,
     Noted<'a, MemoryDisk>,
     Noted<'a, ScriptEntropy>,
+    Noted<'a, ScriptWire>,
 >;
 
 /// How a run ended, and all calls that it made, in their order, a letter each:
@@ -24,7 +25,8 @@ type NotedDevices<'a> = Outside<
 /// - `g` reads the settings, `i` the input; `o` writes to the output, `c` to the capture;
 /// - `s` sends a datagram, `r` receives one;
 /// - `t` reads the clock, `m` corrects it; `e` draws a random word;
-/// - `d` reads the disk, `w` writes to it, `y` syncs it.
+/// - `d` reads the disk, `w` writes to it, `y` syncs it;
+/// - `n` asks the wire for a session, `h` reads of it, `p` writes to it.
 #[derive(Drop)]
 pub struct Ordered {
     pub status: Status,
@@ -57,6 +59,7 @@ fn with_notes<'a>(alloc: Global, devices: Devices, order: &'a Cell<u32>) -> Note
         clock: Noted::new(alloc, devices.clock, order, b' '),
         disk: Noted::new(alloc, devices.disk, order, b' '),
         entropy: Noted::new(alloc, devices.entropy, order, b' '),
+        wire: Noted::new(alloc, devices.wire, order, b' '),
     }
 }
 
@@ -75,6 +78,7 @@ fn letters_of(alloc: Global, noted: &NotedDevices, count: u32) -> Result<Vec<u8>
         &noted.clock.calls,
         &noted.disk.calls,
         &noted.entropy.calls,
+        &noted.wire.calls,
     ] {
         place(&mut letters, calls);
     }
@@ -99,6 +103,7 @@ fn device_of(letter: u8) -> Device {
         b's' | b'r' => Device::Link,
         b't' | b'm' => Device::Clock,
         b'e' => Device::Entropy,
+        b'n' | b'h' | b'p' => Device::Wire,
         _ => Device::Disk,
     }
 }

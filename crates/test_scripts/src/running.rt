@@ -1,9 +1,9 @@
 //! A run of the top call.
-use crate::objects::{clock_of, disk_of, entropy_of, link_of, sink_of, source_of};
+use crate::objects::{clock_of, disk_of, entropy_of, link_of, sink_of, source_of, wire_of};
 use crate::{Device, Script};
 use edge_io::{
     Clock, Drawn, Entropy, Filled, Link, Move, Reading, Receipt, ScriptClock, ScriptEntropy,
-    ScriptLink, ScriptSink, ScriptSource, Tried, fill_front,
+    ScriptLink, ScriptSink, ScriptSource, ScriptWire, Tried, fill_front,
 };
 use slot_disk::MemoryDisk;
 use std::alloc::{AllocError, Global};
@@ -18,6 +18,7 @@ pub type Devices = Outside<
     ScriptClock,
     MemoryDisk,
     ScriptEntropy,
+    ScriptWire,
 >;
 
 /// How a run ended: its status and its devices, and what these gave when they were asked once more behind it: how many
@@ -34,9 +35,12 @@ pub struct Ran {
 }
 
 impl Ran {
-    ghost use Rattle.std.specs.Prelude.{◌≡◌, Some};
+    ghost use Rattle.std.specs.Prelude.{◌≡◌, ◌<◌, IsSomeAnd, Some, length, slice_index_or};
     ghost use Rattle.edge_io.specs.ClockScript.{moves_of};
     ghost use Rattle.edge_io.specs.LinkScript.{sends_of};
+    ghost use Rattle.edge_io.specs.SessionScript.{SessionScript};
+    ghost use Rattle.edge_io.specs.WireScript.{opened_of};
+    ghost use Rattle.edge_traits.specs.Wire.{written_to};
     ghost use Rattle.slot_disk.specs.Memory.{memory_tells};
 
     /// The bytes written.
@@ -72,6 +76,19 @@ impl Ran {
         ensures { (memory_tells self.now.devices.disk).content ≡ Some result.now }
     {
         self.devices.disk.content()
+    }
+
+    /// What was written to the session of this number, the first of which is 0, where so many were opened.
+    pub fn session(&self, number: usize) -> Option<&[u8]>
+        ensures { (d : SessionScript) → number < length (opened_of self.now.devices.wire)
+            → IsSomeAnd result (λ bytes. bytes.now
+            ≡ written_to (slice_index_or (opened_of self.now.devices.wire) number d).told) }
+    {
+        if number < self.devices.wire.opened() {
+            Some(self.devices.wire.written(number))
+        } else {
+            None
+        }
     }
 }
 
@@ -113,6 +130,7 @@ pub(crate) fn devices_of(alloc: Global, input: &[u8], script: &Script) -> Result
     let clock = clock_of(alloc, script.readings, script.failing)?;
     let disk = disk_of(alloc, script.image, script.failing)?;
     let entropy = entropy_of(alloc, script.random, script.failing)?;
+    let wire = wire_of(alloc, script.sessions, script.pieces, script.failing)?;
     Ok(Outside {
         config,
         capture_in,
@@ -122,6 +140,7 @@ pub(crate) fn devices_of(alloc: Global, input: &[u8], script: &Script) -> Result
         clock,
         disk,
         entropy,
+        wire,
     })
 }
 

@@ -25,11 +25,13 @@ pub enum Device {
     Entropy,
     Out,
     Capture,
+    Wire,
 }
 
 /// What the devices do: the settings text, the sizes of its pieces and of the input's, what comes over the link, what the
-/// clock and the entropy give, what the disk holds, which calls of which devices fail, counted from 1 for each device, and
-/// the room of the output and of the capture.
+/// clock and the entropy give, what the disk holds, the bytes of each session of the wire, which come in pieces of the
+/// first of those sizes, which calls of which devices fail, counted from 1 for each device, and the room of the output and
+/// of the capture.
 #[derive(Clone, Copy)]
 pub struct Script<'a> {
     pub settings: &'a [u8],
@@ -38,11 +40,12 @@ pub struct Script<'a> {
     pub readings: &'a [i64],
     pub random: &'a [u32],
     pub image: [u8; 256],
+    pub sessions: &'a [&'a [u8]],
     pub failing: &'a [(Device, u64)],
     pub room: usize,
 }
 
-/// Devices of which no call fails, without settings, datagrams and random words.
+/// Devices of which no call fails, without settings, datagrams, random words and sessions.
 pub const STEADY: Script<'static> = Script {
     settings: b"",
     pieces: &[30],
@@ -50,6 +53,7 @@ pub const STEADY: Script<'static> = Script {
     readings: &[NEW_YEAR, LATER],
     random: &[],
     image: [0; 256],
+    sessions: &[],
     failing: &[],
     room: 1000,
 };

@@ -1,5 +1,6 @@
 //! All devices of a command, each under the name of what the command does with it.
 ghost use Rattle.std.specs.Prelude.{◌≡◌, IfOk, None, false, true};
+ghost use Rattle.edge_io.specs.declared.tcp_wire.Side.TheVariants.{Closed};
 ghost use Rattle.slot_disk.specs.File.{is_open};
 ghost use Rattle.w32tm.specs.Clock.{is_sampled};
 ghost use Rattle.w32tm.specs.Devices.{config_by, draws_by, has_socket, has_words, keeper_by, port_by, read_by, recorded_by, samples_by};
@@ -13,7 +14,9 @@ use crate::devices::{
 };
 use crate::input::Input;
 use crate::output::Output;
-use edge_io::{FileSink, RandomFile, ReaderSource, RealClock, SampleClock, UdpLink, WriterSink};
+use edge_io::{
+    FileSink, RandomFile, ReaderSource, RealClock, SampleClock, TcpWire, UdpLink, WriterSink,
+};
 use slot_disk::FileDisk;
 use std::alloc::{AllocError, Global};
 use std::fs::File;
@@ -45,6 +48,7 @@ pub(crate) fn outside_of<
         MachineClock<RealClock<R>, SampleClock<R>>,
         FileDisk,
         RandomFile<File>,
+        TcpWire<R>,
     >,
     AllocError,
 >
@@ -68,6 +72,9 @@ pub(crate) fn outside_of<
     ensures no_link { port_by command.now ≡ None → IfOk result (λ o. has_socket o.link ≡ false) }
     ensures no_entropy { draws_by command.now ≡ false
         → IfOk result (λ o. has_words o.entropy ≡ false) }
+
+    // No command asks for a session.
+    ensures no_wire { IfOk result (λ o. o.wire.side ≡ Closed) }
 {
     let (config, keeper, samples, read, recorded) = match command {
         Some(command) => (
@@ -88,5 +95,6 @@ pub(crate) fn outside_of<
         clock: clock_of(rt, alloc, words, samples)?,
         disk: disk_of(&rt, words, keeper),
         entropy: entropy_of(&rt, command),
+        wire: TcpWire::without_socket(rt),
     })
 }

@@ -34,9 +34,9 @@ use Rattle.w32tm_text.specs.declared.status.Status.TheVariants.{Done, WriteFault
 -- ---- The devices
 
 -- devices that stayed as they were, but for the settings' and the disk
-pub disk_alone : {S O L C D E : Type 0} (old new : Outside S O L C D E) → new.capture_in ≡ old.capture_in → new.link ≡ old.link → new.clock ≡ old.clock
-    → new.entropy ≡ old.entropy → new.out ≡ old.out → new.capture_out ≡ old.capture_out → new ≡ record old { config = new.config; disk = new.disk }
-disk_alone old new input link clock entropy out capture = λ i. record {
+pub disk_alone : {S O L C D E W : Type 0} (old new : Outside S O L C D E W) → new.capture_in ≡ old.capture_in → new.link ≡ old.link → new.clock ≡ old.clock
+    → new.entropy ≡ old.entropy → new.out ≡ old.out → new.capture_out ≡ old.capture_out → new.wire ≡ old.wire → new ≡ record old { config = new.config; disk = new.disk }
+disk_alone old new input link clock entropy out capture wire = λ i. record {
   config = new.config;
   capture_in = input i;
   out = out i;
@@ -45,6 +45,7 @@ disk_alone old new input link clock entropy out capture = λ i. record {
   clock = clock i;
   disk = new.disk;
   entropy = entropy i;
+  wire = wire i;
 }
 
 -- ---- A life that was begun

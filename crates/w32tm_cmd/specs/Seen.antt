@@ -39,6 +39,8 @@ pub record NeverFalls (before now : Seen) : Type 0 where
   pub clock : before.clock_faults ≤ now.clock_faults
   pub disk : before.disk_faults ≤ now.disk_faults
   pub entropy : before.entropy_faults ≤ now.entropy_faults
+  pub wire : before.wire_faults ≤ now.wire_faults
+  pub wire_write : before.wire_write_faults ≤ now.wire_write_faults
 
 -- a fault that is answered raised the count of a call that it speaks of
 abbrev pub HasCause : Status → Seen → Seen → Type 0

@@ -6,20 +6,20 @@ use Rattle.w32tm_cmd.specs.declared.outside.Outside.{Outside}
 
 -- `/sign` touches the input, the clock and the output; the input alone where a read failed, and no output where no
 -- reply is written
-abbrev pub SignTouches : {S O L C D E : Type 0} → Outside S O L C D E → Outside S O L C D E → Status → Type 0
+abbrev pub SignTouches : {S O L C D E W : Type 0} → Outside S O L C D E W → Outside S O L C D E W → Status → Type 0
 SignTouches old new ReadFault = new ≡ record old { capture_in = new.capture_in }
 SignTouches old new ClockFault = new ≡ record old { capture_in = new.capture_in; clock = new.clock }
 SignTouches old new (BadRequest reason) = new ≡ record old { capture_in = new.capture_in; clock = new.clock }
 SignTouches old new _ = new ≡ record old { capture_in = new.capture_in; out = new.out; clock = new.clock }
 
 -- `/show` touches the output, and nothing where it refuses
-abbrev pub ShowTouches : {S O L C D E : Type 0} → Outside S O L C D E → Outside S O L C D E → Status → Type 0
+abbrev pub ShowTouches : {S O L C D E W : Type 0} → Outside S O L C D E W → Outside S O L C D E W → Status → Type 0
 ShowTouches old new (BadRequest reason) = new ≡ old
 ShowTouches old new _ = new ≡ record old { out = new.out }
 
 -- `/dc` touches the settings, the link, the clock and the output; no output where a reading failed, and nothing but the
 -- settings where there are none
-abbrev pub DcTouches : {S O L C D E : Type 0} → Outside S O L C D E → Outside S O L C D E → Status → Type 0
+abbrev pub DcTouches : {S O L C D E W : Type 0} → Outside S O L C D E W → Outside S O L C D E W → Status → Type 0
 DcTouches old new Done =
     new ≡ record old { config = new.config; out = new.out; link = new.link; clock = new.clock }
 DcTouches old new WriteFault =
@@ -28,7 +28,7 @@ DcTouches old new ClockFault = new ≡ record old { config = new.config; link = 
 DcTouches old new _ = new ≡ record old { config = new.config }
 
 -- settings, link, clock, random words and output may have changed, and nothing else
-abbrev pub TouchesAsked : {S O L C D E : Type 0} → Outside S O L C D E → Outside S O L C D E → Type 0
+abbrev pub TouchesAsked : {S O L C D E W : Type 0} → Outside S O L C D E W → Outside S O L C D E W → Type 0
 TouchesAsked old new = new ≡ record old {
   config = new.config;
   out = new.out;
@@ -39,7 +39,7 @@ TouchesAsked old new = new ≡ record old {
 
 -- `/monitor` touches the settings, the link, the clock, the random words and the output, and nothing but the settings
 -- where there are none
-abbrev pub MonitorTouches : {S O L C D E : Type 0} → Outside S O L C D E → Outside S O L C D E → Status → Type 0
+abbrev pub MonitorTouches : {S O L C D E W : Type 0} → Outside S O L C D E W → Outside S O L C D E W → Status → Type 0
 MonitorTouches old new Done = TouchesAsked old new
 MonitorTouches old new WriteFault = TouchesAsked old new
 MonitorTouches old new ClockFault = TouchesAsked old new
@@ -48,7 +48,7 @@ MonitorTouches old new _ = new ≡ record old { config = new.config }
 
 -- `/replay` touches the settings, the input and the output, and nothing but the settings where there are none or no
 -- partner is among them
-abbrev pub ReplayTouches : {S O L C D E : Type 0} → Outside S O L C D E → Outside S O L C D E → Status → Type 0
+abbrev pub ReplayTouches : {S O L C D E W : Type 0} → Outside S O L C D E W → Outside S O L C D E W → Status → Type 0
 ReplayTouches old new Done = new ≡ record old { config = new.config; capture_in = new.capture_in; out = new.out }
 ReplayTouches old new (BadCapture at) =
     new ≡ record old { config = new.config; capture_in = new.capture_in; out = new.out }
@@ -56,13 +56,13 @@ ReplayTouches old new ReadFault = new ≡ record old { config = new.config; capt
 ReplayTouches old new WriteFault = new ≡ record old { config = new.config; capture_in = new.capture_in; out = new.out }
 ReplayTouches old new _ = new ≡ record old { config = new.config }
 
--- all but the input may have changed
-abbrev pub TouchesLived : {S O L C D E : Type 0} → Outside S O L C D E → Outside S O L C D E → Type 0
-TouchesLived old new = new ≡ record new { capture_in = old.capture_in }
+-- all but the input and the wire may have changed
+abbrev pub TouchesLived : {S O L C D E W : Type 0} → Outside S O L C D E W → Outside S O L C D E W → Type 0
+TouchesLived old new = new ≡ record new { capture_in = old.capture_in; wire = old.wire }
 
--- `/member` touches all but the input; the settings and the disk where that is of another version, and nothing but the
+-- `/member` touches all but the input and the wire; the settings and the disk where that is of another version, and nothing but the
 -- settings where there are none or no partner is among them
-abbrev pub MemberTouches : {S O L C D E : Type 0} → Outside S O L C D E → Outside S O L C D E → Status → Type 0
+abbrev pub MemberTouches : {S O L C D E W : Type 0} → Outside S O L C D E W → Outside S O L C D E W → Status → Type 0
 MemberTouches old new Done = TouchesLived old new
 MemberTouches old new WriteFault = TouchesLived old new
 MemberTouches old new DiskFault = TouchesLived old new

@@ -8,22 +8,22 @@ use crate::config::status_of;
 use crate::writing::write_lines;
 use crate::{Outside, Status, Tells};
 use dc_sign::{ServeWhy, serve};
-use edge_io::{Clock, Entropy, Link, Put, Sink, Source};
+use edge_io::{Clock, Entropy, Link, Put, Sink, Source, Wire};
 use settings_source::settings_from;
 use slot_disk::Disk;
 use std::alloc::Global;
 use w32tm_text::dc_lines;
 
 /// Reads the settings, serves so many turns with their accounts, and writes the closing lines, each in one write.
-pub(crate) fn serve_requests<S: Source, O: Sink, L: Link, C: Clock, D: Disk, E: Entropy>(
+pub(crate) fn serve_requests<S: Source, O: Sink, L: Link, C: Clock, D: Disk, E: Entropy, W: Wire>(
     alloc: Global,
     turns: u32,
-    outside: &mut Outside<S, O, L, C, D, E>,
+    outside: &mut Outside<S, O, L, C, D, E, W>,
 ) -> Status
-    ensures dc { let seen = ⟦<Outside<S, O, L, C, D, E> as Tells>⟧.seen in
+    ensures dc { let seen = ⟦<Outside<S, O, L, C, D, E, W> as Tells>⟧.seen in
         DcPromise turns (seen outside.old) (seen outside.new) result }
     ensures touches { DcTouches outside.old outside.new result }
-    ensures causes { let seen = ⟦<Outside<S, O, L, C, D, E> as Tells>⟧.seen in
+    ensures causes { let seen = ⟦<Outside<S, O, L, C, D, E, W> as Tells>⟧.seen in
         FaultsHaveCauses (seen outside.old) (seen outside.new) result }
 {
     let settings = match settings_from(alloc, &mut outside.config) {

@@ -7,7 +7,7 @@ ghost use Rattle.w32tm_cmd.specs.Touching.{MemberTouches};
 
 use crate::config::status_of;
 use crate::{Outside, Status, Tells};
-use edge_io::{Clock, Entropy, Link, Sink, Source};
+use edge_io::{Clock, Entropy, Link, Sink, Source, Wire};
 use member_run::{Why, live};
 use settings_source::settings_from;
 use slot_disk::Disk;
@@ -15,17 +15,17 @@ use std::alloc::Global;
 use w32tm_text::{ConfFault, conf_of};
 
 /// Reads the settings, and runs a new member of theirs for so many turns.
-pub(crate) fn keep_clock<S: Source, O: Sink, L: Link, C: Clock, D: Disk, E: Entropy>(
+pub(crate) fn keep_clock<S: Source, O: Sink, L: Link, C: Clock, D: Disk, E: Entropy, W: Wire>(
     alloc: Global,
     turns: u32,
-    outside: &mut Outside<S, O, L, C, D, E>,
+    outside: &mut Outside<S, O, L, C, D, E, W>,
 ) -> Status
-    ensures member { let seen = ⟦<Outside<S, O, L, C, D, E> as Tells>⟧.seen in
-        let disk = ⟦<Outside<S, O, L, C, D, E> as Tells>⟧.disk in
+    ensures member { let seen = ⟦<Outside<S, O, L, C, D, E, W> as Tells>⟧.seen in
+        let disk = ⟦<Outside<S, O, L, C, D, E, W> as Tells>⟧.disk in
         MemberPromise turns (disk outside.old) (disk outside.new)
         (seen outside.old) (seen outside.new) result }
     ensures touches { MemberTouches outside.old outside.new result }
-    ensures causes { let seen = ⟦<Outside<S, O, L, C, D, E> as Tells>⟧.seen in
+    ensures causes { let seen = ⟦<Outside<S, O, L, C, D, E, W> as Tells>⟧.seen in
         FaultsHaveCauses (seen outside.old) (seen outside.new) result }
 {
     let settings = match settings_from(alloc, &mut outside.config) {

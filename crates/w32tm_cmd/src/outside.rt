@@ -1,10 +1,10 @@
 //! The devices that a command works with.
-use edge_io::{Clock, Entropy, Link, Sink, Source};
+use edge_io::{Clock, Entropy, Link, Sink, Source, Wire};
 use slot_disk::Disk;
 
 /// The devices, each under the name of what a command does with it.
 #[derive(Drop)]
-pub struct Outside<S: Source, O: Sink, L: Link, C: Clock, D: Disk, E: Entropy> {
+pub struct Outside<S: Source, O: Sink, L: Link, C: Clock, D: Disk, E: Entropy, W: Wire> {
     /// The settings text.
     pub config: S,
     /// What is read: for `/sign` the request, for `/replay` the capture.
@@ -21,6 +21,8 @@ pub struct Outside<S: Source, O: Sink, L: Link, C: Clock, D: Disk, E: Entropy> {
     pub disk: D,
     /// Where random words come from.
     pub entropy: E,
+    /// Where sessions of remote calls come from.
+    pub wire: W,
 }
 
 /// All that the devices tell at a moment, and their counts of failed calls. The clauses speak of the
@@ -36,8 +38,8 @@ pub trait Tells {
     ghost disk: { Self → DiskTold };
 }
 
-impl<S: Source, O: Sink, L: Link, C: Clock, D: Disk, E: Entropy> Tells
-    for Outside<S, O, L, C, D, E> {
+impl<S: Source, O: Sink, L: Link, C: Clock, D: Disk, E: Entropy, W: Wire> Tells
+    for Outside<S, O, L, C, D, E, W> {
     ghost seen = { λ o. record {
       config = S.left o.config;
       config_faults = S.faults o.config;
@@ -54,6 +56,9 @@ impl<S: Source, O: Sink, L: Link, C: Clock, D: Disk, E: Entropy> Tells
       disk_faults = D.faults o.disk;
       words = E.words o.entropy;
       entropy_faults = E.faults o.entropy;
+      wire = W.told o.wire;
+      wire_faults = W.faults o.wire;
+      wire_write_faults = W.write_faults o.wire;
     } };
 
     ghost disk = { λ o. D.told o.disk };

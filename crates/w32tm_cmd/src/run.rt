@@ -19,7 +19,7 @@ use crate::replay::replay_capture;
 use crate::show::show_message;
 use crate::sign::sign_request;
 use crate::{Outside, Status, Tells};
-use edge_io::{Clock, Entropy, Link, Sink, Source};
+use edge_io::{Clock, Entropy, Link, Sink, Source, Wire};
 use slot_disk::Disk;
 use std::alloc::Global;
 use w32tm_text::{Action, read_words};
@@ -39,24 +39,24 @@ use w32tm_text::{Action, read_words};
 /// the settings alone, `/member` and `/replay` for their partners too; where there is none no other device is touched.
 ///
 /// A failed call is the last, but for one of the link. In which order two devices are called is tested (`test_orders`).
-pub fn w32tm<S: Source, O: Sink, L: Link, C: Clock, D: Disk, E: Entropy>(
+pub fn w32tm<S: Source, O: Sink, L: Link, C: Clock, D: Disk, E: Entropy, W: Wire>(
     alloc: Global,
     words: &Vec<String>,
-    outside: &mut Outside<S, O, L, C, D, E>,
+    outside: &mut Outside<S, O, L, C, D, E, W>,
 ) -> Status
     ensures bad_words { (result ≡ Status.BadWords) ↔ SpellNothing (texts words.now.items) }
     ensures untouched { result ≡ Status.BadWords → outside.new ≡ outside.old }
 
     // What `/sign` asks of the devices and leaves there, for each answer; that the request decides, where it is told; and
     // when it is answered or refused.
-    ensures sign { let seen = ⟦<Outside<S, O, L, C, D, E> as Tells>⟧.seen in
+    ensures sign { let seen = ⟦<Outside<S, O, L, C, D, E, W> as Tells>⟧.seen in
         (account : Account) → IsSign account (texts words.now.items)
         → SignPromise account (seen outside.old) (seen outside.new) result }
     ensures sign_touches { (account : Account) → IsSign account (texts words.now.items)
         → SignTouches outside.old outside.new result }
 
     // The same of `/show`, which refuses exactly what is no message.
-    ensures show { let seen = ⟦<Outside<S, O, L, C, D, E> as Tells>⟧.seen in
+    ensures show { let seen = ⟦<Outside<S, O, L, C, D, E, W> as Tells>⟧.seen in
         (bytes : List ℕ) → IsShow bytes (texts words.now.items)
         → ShowPromise bytes (seen outside.old) (seen outside.new) result }
     ensures show_touches { (bytes : List ℕ) → IsShow bytes (texts words.now.items)
@@ -64,7 +64,7 @@ pub fn w32tm<S: Source, O: Sink, L: Link, C: Clock, D: Disk, E: Entropy>(
 
     // What `/dc` asks of the devices and leaves there, for each answer; that a bad text is named exactly; and when it
     // is done.
-    ensures dc { let seen = ⟦<Outside<S, O, L, C, D, E> as Tells>⟧.seen in
+    ensures dc { let seen = ⟦<Outside<S, O, L, C, D, E, W> as Tells>⟧.seen in
         (turns : ℕ) → IsDc turns (texts words.now.items)
         → DcPromise turns (seen outside.old) (seen outside.new) result }
     ensures dc_touches { (turns : ℕ) → IsDc turns (texts words.now.items)
@@ -72,8 +72,8 @@ pub fn w32tm<S: Source, O: Sink, L: Link, C: Clock, D: Disk, E: Entropy>(
 
     // The same of `/member`: its requests, corrections, capture and report are the time machine's over the events that
     // were woven of what the devices gave, and each count is reserved before it is sent.
-    ensures member { let seen = ⟦<Outside<S, O, L, C, D, E> as Tells>⟧.seen in
-        let disk = ⟦<Outside<S, O, L, C, D, E> as Tells>⟧.disk in
+    ensures member { let seen = ⟦<Outside<S, O, L, C, D, E, W> as Tells>⟧.seen in
+        let disk = ⟦<Outside<S, O, L, C, D, E, W> as Tells>⟧.disk in
         (turns : ℕ) → IsMember turns (texts words.now.items)
         → MemberPromise turns (disk outside.old) (disk outside.new)
         (seen outside.old) (seen outside.new) result }
@@ -81,25 +81,25 @@ pub fn w32tm<S: Source, O: Sink, L: Link, C: Clock, D: Disk, E: Entropy>(
         → MemberTouches outside.old outside.new result }
 
     // The same of `/monitor`.
-    ensures monitor { let seen = ⟦<Outside<S, O, L, C, D, E> as Tells>⟧.seen in
+    ensures monitor { let seen = ⟦<Outside<S, O, L, C, D, E, W> as Tells>⟧.seen in
         IsMonitor (texts words.now.items)
         → MonitorPromise (seen outside.old) (seen outside.new) result }
     ensures monitor_touches { IsMonitor (texts words.now.items)
         → MonitorTouches outside.old outside.new result }
 
     // The same of `/replay`, which also names a bad capture and the want of a partner exactly.
-    ensures replay { let seen = ⟦<Outside<S, O, L, C, D, E> as Tells>⟧.seen in
+    ensures replay { let seen = ⟦<Outside<S, O, L, C, D, E, W> as Tells>⟧.seen in
         IsReplay (texts words.now.items)
         → ReplayPromise (seen outside.old) (seen outside.new) result }
     ensures replay_touches { IsReplay (texts words.now.items)
         → ReplayTouches outside.old outside.new result }
-    ensures replay_config_fault { let seen = ⟦<Outside<S, O, L, C, D, E> as Tells>⟧.seen in
+    ensures replay_config_fault { let seen = ⟦<Outside<S, O, L, C, D, E, W> as Tells>⟧.seen in
         IsReplay (texts words.now.items) → result ≡ Status.ReadFault
         → ¬ Rose (seen outside.old).read_faults (seen outside.new).read_faults
         → outside.new ≡ record outside.old { config = outside.new.config } }
 
     // No count falls, and each fault has its cause.
-    ensures causes { let seen = ⟦<Outside<S, O, L, C, D, E> as Tells>⟧.seen in
+    ensures causes { let seen = ⟦<Outside<S, O, L, C, D, E, W> as Tells>⟧.seen in
         FaultsHaveCauses (seen outside.old) (seen outside.new) result }
 {
     match read_words(words) {

@@ -5,7 +5,7 @@ ghost use Rattle.w32tm_cmd.specs.Touching.{SignTouches};
 
 use crate::{Outside, Status, Tells};
 use dc_sign::{Answer, ServerInfo, answer, two_readings};
-use edge_io::{Clock, DATAGRAM_LEN, Entropy, Filled, Link, Put, Sink, Source, fill_front};
+use edge_io::{Clock, DATAGRAM_LEN, Entropy, Filled, Link, Put, Sink, Source, Wire, fill_front};
 use key_book::Account;
 use slot_disk::Disk;
 
@@ -14,14 +14,14 @@ use slot_disk::Disk;
 const INPUT_LEN: usize = DATAGRAM_LEN + 1;
 
 /// Reads the request, then the clock twice, and writes the reply under the account in one write.
-pub(crate) fn sign_request<S: Source, O: Sink, L: Link, C: Clock, D: Disk, E: Entropy>(
+pub(crate) fn sign_request<S: Source, O: Sink, L: Link, C: Clock, D: Disk, E: Entropy, W: Wire>(
     account: &Account,
-    outside: &mut Outside<S, O, L, C, D, E>,
+    outside: &mut Outside<S, O, L, C, D, E, W>,
 ) -> Status
-    ensures sign { let seen = ⟦<Outside<S, O, L, C, D, E> as Tells>⟧.seen in
+    ensures sign { let seen = ⟦<Outside<S, O, L, C, D, E, W> as Tells>⟧.seen in
         Signs account.now (seen outside.old) (seen outside.new) result }
     ensures touches { SignTouches outside.old outside.new result }
-    ensures causes { let seen = ⟦<Outside<S, O, L, C, D, E> as Tells>⟧.seen in
+    ensures causes { let seen = ⟦<Outside<S, O, L, C, D, E, W> as Tells>⟧.seen in
         FaultsHaveCauses (seen outside.old) (seen outside.new) result }
 {
     let mut input = [0; INPUT_LEN];

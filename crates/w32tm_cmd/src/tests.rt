@@ -1,7 +1,7 @@
 //! Each command once, over devices in memory. Whole runs, and runs whose devices' calls fail, are in `test_sign`,
 //! `test_dc`, `test_monitor`, `test_replay`, `test_member` and `test_settings`.
 use crate::{Outside, Status, w32tm};
-use edge_io::{ScriptClock, ScriptEntropy, ScriptLink, ScriptSink, ScriptSource};
+use edge_io::{ScriptClock, ScriptEntropy, ScriptLink, ScriptSink, ScriptSource, ScriptWire};
 use slot_disk::MemoryDisk;
 use std::alloc::Global;
 use std::test::Fail;
@@ -32,6 +32,7 @@ type Devices = Outside<
     ScriptClock,
     MemoryDisk,
     ScriptEntropy,
+    ScriptWire,
 >;
 
 fn source_of(alloc: Global, bytes: &[u8]) -> Result<ScriptSource, Fail> {
@@ -82,6 +83,7 @@ fn devices_of(alloc: Global, input: &[u8]) -> Result<Devices, Fail> {
     let clock = clock_of(alloc)?;
     let disk = disk_of(alloc)?;
     let entropy = entropy_of(alloc)?;
+    let wire = ScriptWire::new(alloc, Vec::new(alloc), Vec::new(alloc), 10)?;
     Ok(Outside {
         config,
         capture_in,
@@ -91,6 +93,7 @@ fn devices_of(alloc: Global, input: &[u8]) -> Result<Devices, Fail> {
         clock,
         disk,
         entropy,
+        wire,
     })
 }
 

@@ -87,7 +87,7 @@ returns-clause-member g c = judged c.args.turns _ _ _ _ why.SinkFault
 pub returns-in-BadVersion-clause-touches : goal.returns-in-BadVersion-clause-touches
 returns-in-BadVersion-clause-touches g c =
     let same = c.live-end.ensures.untouched c.in-BadVersion.is in
-    disk_alone c.args.outside.now _ refl same.0 same.1 same.2 same.3 same.4
+    disk_alone c.args.outside.now _ refl same.0 same.1 same.2 same.3 same.4 refl
 
 -- each fault has its cause
 pub returns-in-DiskFault-clause-causes : goal.returns-in-DiskFault-clause-causes
