@@ -11,9 +11,9 @@
 //! says what a run keeps between its calls, and `specs/Starting.antt` how it begins.
 //!
 //! The files, in the order of a run: `life.rt` (the whole), `running.rt` (its start and a turn), `reserving.rt` (counts),
-//! `devices.rt` (readings, words, records and lines), `taking.rt` (an event), `closing.rt` (the last lines), and
-//! `rounds.rt` (`resync`). All but `devices.rt` and `closing.rt` have an `impl Running`. The other definitions in `specs/`
-//! belong to the private part. Its tests are runs, in `test_lives`.
+//! `devices.rt` (the devices, borrowed as one struct; readings, words, records and lines), `taking.rt` (an event),
+//! `closing.rt` (the last lines), and `rounds.rt` (`resync`). All but `devices.rt` and `closing.rt` have an `impl Running`.
+//! The other definitions in `specs/` belong to the private part. Its tests are runs, in `test_lives`.
 #![tactic(auto)]
 
 mod closing;
