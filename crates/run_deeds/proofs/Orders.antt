@@ -15,7 +15,7 @@ use Rattle.time_machine.specs.Events.{History, reading_of}
 use Rattle.time_machine.specs.Machine.{Posted, moves_by, outcome_at, posted_by, told}
 use Rattle.time_machine.specs.Words.{words}
 use Rattle.time_machine.proofs.After.{verdict_cases}
-use Rattle.run_deeds.specs.Weaving.{Stood, Need, Start, Turns, WordFor, ReceiptNow, ReadingFor, Call, CallReading, CallWord, Round, RoundReading, Act, Weaves, none, acts, life, reads, draws, gets, quiet, lost, arrives, clock_calls, posted_of, turn_calls, turn_requests}
+use Rattle.run_deeds.specs.Weaving.{Stood, Need, Start, Turns, WordFor, ReceiptNow, ReadingFor, Calls, CallWord, Round, RoundReading, Act, Weaves, none, acts, life, reads, draws, gets, quiet, lost, arrives, clock_calls, posted_of, turn_calls, turn_requests}
 use Rattle.run_deeds.proofs.Weaves.{receipts_behind}
 
 -- ---- Only a Tick of the turns sends
@@ -274,11 +274,10 @@ aligned (Turns left) a b c d first next is = same_events a b c d first next is
 aligned (WordFor left now) a b c d first next is = same_events a b c d first next is
 aligned (ReceiptNow left) a b c d first next is = same_events a b c d first next is
 aligned (ReadingFor left from bytes) a b c d first next is = same_events a b c d first next is
-aligned Call a b c d first next is = same_events a b c d first next is
-aligned (CallReading wait flags) a b c d first next is = same_events a b c d first next is
-aligned (CallWord wait flags now) a b c d first next is = same_events a b c d first next is
-aligned (Round left) a b c d first next is = same_events a b c d first next is
-aligned (RoundReading left from bytes) a b c d first next is = same_events a b c d first next is
+aligned (Calls left) a b c d first next is = same_events a b c d first next is
+aligned (CallWord call now left) a b c d first next is = same_events a b c d first next is
+aligned (Round receipts left) a b c d first next is = same_events a b c d first next is
+aligned (RoundReading receipts from bytes left) a b c d first next is = same_events a b c d first next is
 
 -- where it is known which event is missing, the calls are those of the others
 pub order_but : {conf : Conf} {stood : Stood} {turns : ℕ} {history : History} {cs : List ClockCall} {ws : List ℕ} {ls : List LinkCall} {need : Need} (events missing : List Event)

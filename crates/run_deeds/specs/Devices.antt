@@ -1,5 +1,5 @@
 -- What the devices of a run tell, and what a part of a run was given and did.
-use Rattle.std.specs.Prelude.{◌≡◌, ℕ, ◌<◌, List, [], map, Option, ⊤}
+use Rattle.std.specs.Prelude.{◌≡◌, ℕ, ◌<◌, List, [], ◌∷◌, map, Option, ⊤}
 use Rattle.std.specs.List.{AllByRecursion}
 use Rattle.base_specs.specs.Counts.{Fails, FailsTimes, Rose}
 use Rattle.base_specs.specs.Told.{Added, Grew}
@@ -13,7 +13,7 @@ use Rattle.time_machine.specs.declared.conf.Conf.{Conf}
 use Rattle.time_machine.specs.Events.{History}
 use Rattle.run_deeds.specs.declared.life_end.Why.{Why}
 use Rattle.run_deeds.specs.declared.life_end.Why.TheVariants.{Done, DiskFault, BadVersion, StampsSpent, ClockFault, EntropyFault, SinkFault}
-use Rattle.run_deeds.specs.Weaving.{Need, Start, Turns, WordFor, ReceiptNow, ReadingFor, Call, CallReading, CallWord, Round, RoundReading, Act, posted_of}
+use Rattle.run_deeds.specs.Weaving.{Need, Start, Turns, WordFor, ReceiptNow, ReadingFor, Calls, CallWord, Round, RoundReading, Act, posted_of}
 use Rattle.run_deeds.specs.Deeds.{Deed, Take, Print, Ending, Whole, NoRecord, NoLine, HasLine, IsWhole, along, posted_in, moves_in, all_done, events_given, captured, printed}
 
 -- how often a call has failed, of each object whose fault ends a run
@@ -82,20 +82,20 @@ abbrev pub NeedsReading : Need → Type 0
 NeedsReading (Start stood next) = ⊤
 NeedsReading (Turns left) = 0 < left
 NeedsReading (ReadingFor left from bytes) = ⊤
-NeedsReading (CallReading wait flags) = ⊤
-NeedsReading (RoundReading left from bytes) = ⊤
+NeedsReading (Calls (call ∷ left)) = ⊤
+NeedsReading (RoundReading receipts from bytes left) = ⊤
 NeedsReading _ = ⊥
 
 -- a word is needed next
 abbrev pub NeedsWord : Need → Type 0
 NeedsWord (WordFor left now) = ⊤
-NeedsWord (CallWord wait flags now) = ⊤
+NeedsWord (CallWord call now left) = ⊤
 NeedsWord _ = ⊥
 
 -- a Tick or a Resync comes next, for which a count has to be reserved
 abbrev pub NeedsCount : Need → Type 0
 NeedsCount (Turns left) = 0 < left
-NeedsCount (CallReading wait flags) = ⊤
+NeedsCount (Calls (call ∷ left)) = ⊤
 NeedsCount _ = ⊥
 
 -- the Life comes next, for which the disk has to be read
@@ -107,7 +107,7 @@ NeedsMark _ = ⊥
 abbrev pub NeedsDisk : Need → Type 0
 NeedsDisk (Start stood next) = ⊤
 NeedsDisk (Turns left) = 0 < left
-NeedsDisk (CallReading wait flags) = ⊤
+NeedsDisk (Calls (call ∷ left)) = ⊤
 NeedsDisk _ = ⊥
 
 -- the Tick of a turn was not taken: its reading or its word is needed next, or its record could not be written
@@ -158,15 +158,15 @@ NeedsReceipt _ = ⊥
 
 -- a call, or a receipt of its round, is needed next
 abbrev pub IsInCalls : Need → Type 0
-IsInCalls Call = ⊤
-IsInCalls (Round left) = ⊤
+IsInCalls (Calls left) = ⊤
+IsInCalls (Round receipts left) = ⊤
 IsInCalls _ = ⊥
 
 -- a turn, a call, or a receipt of its round, is needed next
 abbrev pub IsBetween : Need → Type 0
 IsBetween (Turns left) = ⊤
-IsBetween Call = ⊤
-IsBetween (Round left) = ⊤
+IsBetween (Calls left) = ⊤
+IsBetween (Round receipts left) = ⊤
 IsBetween _ = ⊥
 
 -- what may be needed next right behind an event

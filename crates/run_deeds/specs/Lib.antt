@@ -1,4 +1,5 @@
 pub mod Weaving
+pub mod ServiceWeaving
 pub mod Deeds
 pub mod Counting
 pub mod Devices

@@ -1,5 +1,5 @@
 -- The events of a run, from what its devices gave.
-use Rattle.std.specs.Prelude.{◌≡◌, ℕ, suc, ◌==◌, if◌then◌else◌, ℤ, List, [], ◌∷◌, ◌++◌, is_some, map}
+use Rattle.std.specs.Prelude.{◌≡◌, ℕ, zero, suc, ◌==◌, if◌then◌else◌, ℤ, List, [], ◌∷◌, ◌++◌, is_some, map}
 use Rattle.edge_traits.specs.Clock.{ClockCall, Correct, Read}
 use Rattle.edge_traits.specs.Link.{LinkCall, Receive, Send}
 use Rattle.edge_traits.specs.declared.datagram.Addr.{Addr}
@@ -73,6 +73,11 @@ posted_of tried = record { to = tried.to; bytes = tried.bytes }
 
 -- ---- The same for any part of any run, call by call
 
+-- a call that asks for a request: whether it waits for what comes of it, where this isn't 0, and its flags
+pub record SyncCall : Type 0 where
+  pub wait : ℕ
+  pub flags : ℕ
+
 -- what a run needs next
 pub data Need : Type 0 where
   -- the reading of the Life; what is needed behind it
@@ -85,30 +90,29 @@ pub data Need : Type 0 where
   ReceiptNow : (left : ℕ) → Need
   -- the reading of the Arrive of this datagram
   ReadingFor : (left : ℕ) (from : Addr) (bytes : List ℕ) → Need
-  -- a call that asks for a request, or the end of the calls
-  Call : Need
-  -- the reading of the Resync of a call with this wait and these flags
-  CallReading : (wait flags : ℕ) → Need
-  -- the word of the Resync at this reading
-  CallWord : (wait flags : ℕ) (now : ℤ) → Need
+  -- these calls are left that ask for a request; the reading of the Resync of the first one
+  Calls : (left : List SyncCall) → Need
+  -- the word of the Resync of this call at this reading, behind which these calls are left
+  CallWord : (call : SyncCall) (now : ℤ) (left : List SyncCall) → Need
   -- a receipt of a call's round, which may take so many still
-  Round : (left : ℕ) → Need
+  Round : (receipts : ℕ) (left : List SyncCall) → Need
   -- the reading of the Arrive of this datagram, behind which the round may take so many receipts
-  RoundReading : (left : ℕ) (from : Addr) (bytes : List ℕ) → Need
+  RoundReading : (receipts : ℕ) (from : Addr) (bytes : List ℕ) (left : List SyncCall) → Need
   -- what an event led to, its send or its correction; what is needed behind it
   Act : (outcome : Outcome) (behind : Need) → Need
 
 -- a round may take so many receipts still, or is over
-abbrev pub round_of : ℕ → Need
-round_of left = if left == 0 then Call else Round left
+abbrev pub round_of : ℕ → List SyncCall → Need
+round_of zero left = Calls left
+round_of (suc more) left = Round (suc more) left
 
 -- behind the Resync of a call: a round of at most 16 receipts, where the call waits
-abbrev pub behind_request : ℕ → Need
-behind_request wait = if wait == 0 then Call else Round 16
+abbrev pub behind_request : ℕ → List SyncCall → Need
+behind_request wait left = if wait == 0 then Calls left else Round 16 left
 
 -- behind an arrival in a round, which an accepted one ends
-abbrev pub behind_arrival : ℕ → Outcome → Need
-behind_arrival left outcome = if is_some (offset_moved outcome) then Call else round_of left
+abbrev pub behind_arrival : ℕ → Outcome → List SyncCall → Need
+behind_arrival receipts outcome left = if is_some (offset_moved outcome) then Calls left else round_of receipts left
 
 -- After a history, from one need to another: these calls of clock and link were made and these words drawn, each in its
 -- turn, and give these events, the first one first. What an event leads to is done right behind it.
@@ -139,21 +143,21 @@ pub data Weaves (conf : Conf) : Need → History → List ClockCall → List ℕ
   arrives : {left : ℕ} {from : Addr} {bytes : List ℕ} {now : ℤ} {need : Need} {history : History} {cs : List ClockCall} {ws : List ℕ} {ls : List LinkCall} {es : List Event}
       → Weaves conf (Act (outcome_at conf history (Arrive now from bytes)) (Turns left)) (Arrive now from bytes ∷ history) cs ws ls es need
       → Weaves conf (ReadingFor left from bytes) history (Read now ∷ cs) ws ls (Arrive now from bytes ∷ es) need
-  call_reads : {wait flags : ℕ} {now : ℤ} {need : Need} {history : History} {cs : List ClockCall} {ws : List ℕ} {ls : List LinkCall} {es : List Event}
-      → Weaves conf (CallWord wait flags now) history cs ws ls es need
-      → Weaves conf (CallReading wait flags) history (Read now ∷ cs) ws ls es need
-  call_draws : {wait flags : ℕ} {now : ℤ} {word : ℕ} {need : Need} {history : History} {cs : List ClockCall} {ws : List ℕ} {ls : List LinkCall} {es : List Event}
-      → Weaves conf (Act (outcome_at conf history (Resync now word flags)) (behind_request wait)) (Resync now word flags ∷ history) cs ws ls es need
-      → Weaves conf (CallWord wait flags now) history cs (word ∷ ws) ls (Resync now word flags ∷ es) need
-  round_gets : {left : ℕ} {from : Addr} {bytes : List ℕ} {need : Need} {history : History} {cs : List ClockCall} {ws : List ℕ} {ls : List LinkCall} {es : List Event}
-      → Weaves conf (RoundReading left from bytes) history cs ws ls es need
-      → Weaves conf (Round (suc left)) history cs ws (Receive (Got from bytes) ∷ ls) es need
-  round_quiet : {left : ℕ} {need : Need} {history : History} {cs : List ClockCall} {ws : List ℕ} {ls : List LinkCall} {es : List Event}
-      → Weaves conf Call history cs ws ls es need
-      → Weaves conf (Round (suc left)) history cs ws (Receive Quiet ∷ ls) es need
-  round_lost : {left : ℕ} {need : Need} {history : History} {cs : List ClockCall} {ws : List ℕ} {ls : List LinkCall} {es : List Event}
-      → Weaves conf (round_of left) history cs ws ls es need
-      → Weaves conf (Round (suc left)) history cs ws (Receive Failed ∷ ls) es need
-  round_arrives : {left : ℕ} {from : Addr} {bytes : List ℕ} {now : ℤ} {need : Need} {history : History} {cs : List ClockCall} {ws : List ℕ} {ls : List LinkCall} {es : List Event}
-      → Weaves conf (Act (outcome_at conf history (Arrive now from bytes)) (behind_arrival left (outcome_at conf history (Arrive now from bytes)))) (Arrive now from bytes ∷ history) cs ws ls es need
-      → Weaves conf (RoundReading left from bytes) history (Read now ∷ cs) ws ls (Arrive now from bytes ∷ es) need
+  call_reads : {call : SyncCall} {left : List SyncCall} {now : ℤ} {need : Need} {history : History} {cs : List ClockCall} {ws : List ℕ} {ls : List LinkCall} {es : List Event}
+      → Weaves conf (CallWord call now left) history cs ws ls es need
+      → Weaves conf (Calls (call ∷ left)) history (Read now ∷ cs) ws ls es need
+  call_draws : {call : SyncCall} {left : List SyncCall} {now : ℤ} {word : ℕ} {need : Need} {history : History} {cs : List ClockCall} {ws : List ℕ} {ls : List LinkCall} {es : List Event}
+      → Weaves conf (Act (outcome_at conf history (Resync now word call.flags)) (behind_request call.wait left)) (Resync now word call.flags ∷ history) cs ws ls es need
+      → Weaves conf (CallWord call now left) history cs (word ∷ ws) ls (Resync now word call.flags ∷ es) need
+  round_gets : {receipts : ℕ} {left : List SyncCall} {from : Addr} {bytes : List ℕ} {need : Need} {history : History} {cs : List ClockCall} {ws : List ℕ} {ls : List LinkCall} {es : List Event}
+      → Weaves conf (RoundReading receipts from bytes left) history cs ws ls es need
+      → Weaves conf (Round (suc receipts) left) history cs ws (Receive (Got from bytes) ∷ ls) es need
+  round_quiet : {receipts : ℕ} {left : List SyncCall} {need : Need} {history : History} {cs : List ClockCall} {ws : List ℕ} {ls : List LinkCall} {es : List Event}
+      → Weaves conf (Calls left) history cs ws ls es need
+      → Weaves conf (Round (suc receipts) left) history cs ws (Receive Quiet ∷ ls) es need
+  round_lost : {receipts : ℕ} {left : List SyncCall} {need : Need} {history : History} {cs : List ClockCall} {ws : List ℕ} {ls : List LinkCall} {es : List Event}
+      → Weaves conf (round_of receipts left) history cs ws ls es need
+      → Weaves conf (Round (suc receipts) left) history cs ws (Receive Failed ∷ ls) es need
+  round_arrives : {receipts : ℕ} {left : List SyncCall} {from : Addr} {bytes : List ℕ} {now : ℤ} {need : Need} {history : History} {cs : List ClockCall} {ws : List ℕ} {ls : List LinkCall} {es : List Event}
+      → Weaves conf (Act (outcome_at conf history (Arrive now from bytes)) (behind_arrival receipts (outcome_at conf history (Arrive now from bytes)) left)) (Arrive now from bytes ∷ history) cs ws ls es need
+      → Weaves conf (RoundReading receipts from bytes left) history (Read now ∷ cs) ws ls (Arrive now from bytes ∷ es) need
