@@ -18,7 +18,7 @@ use Rattle.sntp_core.specs.Standing.{StandsForHistory, conf_of}
 use Rattle.run_deeds.specs.declared.life_end.LifeEnd.{LifeEnd}
 use Rattle.run_deeds.specs.declared.life_end.Why.{Why}
 use Rattle.run_deeds.specs.declared.life_end.Why.TheVariants.{Done, DiskFault, BadVersion, StampsSpent, ClockFault, EntropyFault, SinkFault}
-use Rattle.run_deeds.specs.Weaving.{Need, Start, Turns, WordFor, ReceiptNow, ReadingFor, Call, CallReading, CallWord, Round, RoundReading, Act, Weaves, none, acts, call_reads, call_draws, behind_request}
+use Rattle.run_deeds.specs.Weaving.{Need, Start, Turns, WordFor, ReceiptNow, ReadingFor, SyncCall, Calls, CallWord, Round, RoundReading, Act, Weaves, none, acts, call_reads, call_draws, behind_request, one_call}
 use Rattle.run_deeds.specs.Deeds.{Deed, Take, Ending, along, all_done, history_after}
 use Rattle.edge_seen.specs.Seen.{Seen}
 use Rattle.run_deeds.specs.Devices.{Faults, IsBehind, IsBetween, IsInCalls, IsToDo, LifeEndsBy, NeedsCount, NeedsDisk, NeedsMark, NeedsReading, NeedsReceipt, NeedsWord, faults_of}
@@ -39,25 +39,25 @@ waiting wait (Turns left) = Turns left
 waiting wait (WordFor left now) = WordFor left now
 waiting wait (ReceiptNow left) = ReceiptNow left
 waiting wait (ReadingFor left from bytes) = ReadingFor left from bytes
-waiting wait Call = behind_request wait
-waiting wait (CallReading other flags) = CallReading wait flags
-waiting wait (CallWord other flags now) = CallWord wait flags now
-waiting wait (Round left) = Round left
-waiting wait (RoundReading left from bytes) = RoundReading left from bytes
+waiting wait (Calls []) = behind_request wait []
+waiting wait (Calls (call ∷ left)) = Calls (record { wait = wait; flags = call.flags } ∷ left)
+waiting wait (CallWord call now left) = CallWord (record { wait = wait; flags = call.flags }) now left
+waiting wait (Round receipts left) = Round receipts left
+waiting wait (RoundReading receipts from bytes left) = RoundReading receipts from bytes left
 waiting wait (Act outcome behind) = Act outcome (waiting wait behind)
 
 wait_act : {conf : Conf} {outcome : Outcome} (wait : ℕ) {history : History} {cs : List ClockCall} {ws : List ℕ} {ls : List LinkCall} {es : List Event} {need : Need}
-    → Weaves conf (Act outcome Call) history cs ws ls es need → Weaves conf (Act outcome (behind_request wait)) history cs ws ls es (waiting wait need)
+    → Weaves conf (Act outcome (Calls [])) history cs ws ls es need → Weaves conf (Act outcome (behind_request wait [])) history cs ws ls es (waiting wait need)
 wait_act wait none = none
 wait_act wait (acts tried are none) = acts tried are none
 
 wait_word : {conf : Conf} (wait : ℕ) {flags : ℕ} {now : ℤ} {history : History} {cs : List ClockCall} {ws : List ℕ} {ls : List LinkCall} {es : List Event} {need : Need}
-    → Weaves conf (CallWord 0 flags now) history cs ws ls es need → Weaves conf (CallWord wait flags now) history cs ws ls es (waiting wait need)
+    → Weaves conf (CallWord (record { wait = 0; flags = flags }) now []) history cs ws ls es need → Weaves conf (CallWord (record { wait = wait; flags = flags }) now []) history cs ws ls es (waiting wait need)
 wait_word wait none = none
 wait_word wait (call_draws s) = call_draws (wait_act wait s)
 
 wait_weaves : {conf : Conf} {wait flags : ℕ} {history : History} {cs : List ClockCall} {ws : List ℕ} {ls : List LinkCall} {es : List Event} {need : Need}
-    → Weaves conf (CallReading 0 flags) history cs ws ls es need → Weaves conf (CallReading wait flags) history cs ws ls es (waiting wait need)
+    → Weaves conf (one_call 0 flags) history cs ws ls es need → Weaves conf (one_call wait flags) history cs ws ls es (waiting wait need)
 wait_weaves none = none
 wait_weaves {wait = wait} (call_reads s) = call_reads (wait_word wait s)
 
@@ -68,26 +68,26 @@ record BeginsCall (flags : ℕ) (es : List Event) : Type 0 where
   is : es ≡ Resync now word flags ∷ []
 
 begins_act : {conf : Conf} {outcome : Outcome} {history : History} {cs : List ClockCall} {ws : List ℕ} {ls : List LinkCall} {es : List Event} {need : Need}
-    → Weaves conf (Act outcome Call) history cs ws ls es need → es ≡ []
+    → Weaves conf (Act outcome (Calls [])) history cs ws ls es need → es ≡ []
 begins_act none = refl
 begins_act (acts tried are none) = refl
 
 begins_word : {conf : Conf} {flags : ℕ} {now : ℤ} {history : History} {cs : List ClockCall} {ws : List ℕ} {ls : List LinkCall} {es : List Event} {need : Need}
-    → Weaves conf (CallWord 0 flags now) history cs ws ls es need → need ≡ Call → BeginsCall flags es
+    → Weaves conf (CallWord (record { wait = 0; flags = flags }) now []) history cs ws ls es need → need ≡ Calls [] → BeginsCall flags es
 begins_word none is = absurd (let bad : ⊥ = cc is in bad)
 begins_word {flags = flags} {now = now} (call_draws {word = word} s) is =
     record { now = now; word = word; is = ap (λ (l : List Event). Resync now word flags ∷ l) (begins_act s) }
 
 begins_call : {conf : Conf} {flags : ℕ} {history : History} {cs : List ClockCall} {ws : List ℕ} {ls : List LinkCall} {es : List Event} {need : Need}
-    → Weaves conf (CallReading 0 flags) history cs ws ls es need → need ≡ Call → BeginsCall flags es
+    → Weaves conf (one_call 0 flags) history cs ws ls es need → need ≡ Calls [] → BeginsCall flags es
 begins_call none is = absurd (let bad : ⊥ = cc is in bad)
 begins_call (call_reads s) is = begins_word s is
 
-calls_on : (b : Bool) → IsInCalls (if b then Call else Round 16)
+calls_on : (b : Bool) → IsInCalls (if b then Calls [] else Round 16 [])
 calls_on true = tt
 calls_on false = tt
 
-between_on : (b : Bool) → IsBetween (if b then Call else Round 16)
+between_on : (b : Bool) → IsBetween (if b then Calls [] else Round 16 [])
 between_on true = tt
 between_on false = tt
 
@@ -97,11 +97,11 @@ wait_receipt wait (Turns k) needs = absurd needs
 wait_receipt wait (WordFor k now) needs = absurd needs
 wait_receipt wait (ReceiptNow k) needs = tt
 wait_receipt wait (ReadingFor k from bytes) needs = absurd needs
-wait_receipt wait Call needs = absurd needs
-wait_receipt wait (CallReading other flags) needs = absurd needs
-wait_receipt wait (CallWord other flags now) needs = absurd needs
-wait_receipt wait (Round k) needs = absurd needs
-wait_receipt wait (RoundReading k from bytes) needs = absurd needs
+wait_receipt wait (Calls []) needs = absurd needs
+wait_receipt wait (Calls (call ∷ left)) needs = absurd needs
+wait_receipt wait (CallWord call now left) needs = absurd needs
+wait_receipt wait (Round receipts left) needs = absurd needs
+wait_receipt wait (RoundReading receipts from bytes left) needs = absurd needs
 wait_receipt wait (Act outcome behind) needs = absurd needs
 
 wait_calls : (wait : ℕ) (need : Need) → IsInCalls need → IsInCalls (waiting wait need)
@@ -110,11 +110,11 @@ wait_calls wait (Turns k) needs = absurd needs
 wait_calls wait (WordFor k now) needs = absurd needs
 wait_calls wait (ReceiptNow k) needs = absurd needs
 wait_calls wait (ReadingFor k from bytes) needs = absurd needs
-wait_calls wait Call needs = calls_on (wait == 0)
-wait_calls wait (CallReading other flags) needs = absurd needs
-wait_calls wait (CallWord other flags now) needs = absurd needs
-wait_calls wait (Round k) needs = tt
-wait_calls wait (RoundReading k from bytes) needs = absurd needs
+wait_calls wait (Calls []) needs = calls_on (wait == 0)
+wait_calls wait (Calls (call ∷ left)) needs = tt
+wait_calls wait (CallWord call now left) needs = absurd needs
+wait_calls wait (Round receipts left) needs = tt
+wait_calls wait (RoundReading receipts from bytes left) needs = absurd needs
 wait_calls wait (Act outcome behind) needs = absurd needs
 
 wait_between : (wait : ℕ) (need : Need) → IsBetween need → IsBetween (waiting wait need)
@@ -123,11 +123,11 @@ wait_between wait (Turns k) needs = tt
 wait_between wait (WordFor k now) needs = absurd needs
 wait_between wait (ReceiptNow k) needs = absurd needs
 wait_between wait (ReadingFor k from bytes) needs = absurd needs
-wait_between wait Call needs = between_on (wait == 0)
-wait_between wait (CallReading other flags) needs = absurd needs
-wait_between wait (CallWord other flags now) needs = absurd needs
-wait_between wait (Round k) needs = tt
-wait_between wait (RoundReading k from bytes) needs = absurd needs
+wait_between wait (Calls []) needs = between_on (wait == 0)
+wait_between wait (Calls (call ∷ left)) needs = tt
+wait_between wait (CallWord call now left) needs = absurd needs
+wait_between wait (Round receipts left) needs = tt
+wait_between wait (RoundReading receipts from bytes left) needs = absurd needs
 wait_between wait (Act outcome behind) needs = absurd needs
 
 wait_behind : (wait : ℕ) (need : Need) (event : Event) → IsBehind event need → IsBehind event (waiting wait need)
@@ -142,11 +142,11 @@ wait_does wait (Turns k) event does = absurd does
 wait_does wait (WordFor k now) event does = absurd does
 wait_does wait (ReceiptNow k) event does = absurd does
 wait_does wait (ReadingFor k from bytes) event does = absurd does
-wait_does wait Call event does = absurd does
-wait_does wait (CallReading other flags) event does = absurd does
-wait_does wait (CallWord other flags now) event does = absurd does
-wait_does wait (Round k) event does = absurd does
-wait_does wait (RoundReading k from bytes) event does = absurd does
+wait_does wait (Calls []) event does = absurd does
+wait_does wait (Calls (call ∷ left)) event does = absurd does
+wait_does wait (CallWord call now left) event does = absurd does
+wait_does wait (Round receipts left) event does = absurd does
+wait_does wait (RoundReading receipts from bytes left) event does = absurd does
 wait_does wait (Act outcome behind) event does = wait_behind wait behind event does
 
 -- the need before the word or the Resync, as an end of the part names it
@@ -156,11 +156,11 @@ wait_disk wait (Turns k) needs = needs
 wait_disk wait (WordFor k now) needs = absurd needs
 wait_disk wait (ReceiptNow k) needs = absurd needs
 wait_disk wait (ReadingFor k from bytes) needs = absurd needs
-wait_disk wait Call needs = absurd needs
-wait_disk wait (CallReading other flags) needs = tt
-wait_disk wait (CallWord other flags now) needs = absurd needs
-wait_disk wait (Round k) needs = absurd needs
-wait_disk wait (RoundReading k from bytes) needs = absurd needs
+wait_disk wait (Calls []) needs = absurd needs
+wait_disk wait (Calls (call ∷ left)) needs = tt
+wait_disk wait (CallWord call now left) needs = absurd needs
+wait_disk wait (Round receipts left) needs = absurd needs
+wait_disk wait (RoundReading receipts from bytes left) needs = absurd needs
 wait_disk wait (Act outcome behind) needs = absurd needs
 
 wait_mark : (wait : ℕ) (need : Need) → NeedsMark need → NeedsMark (waiting wait need)
@@ -169,11 +169,11 @@ wait_mark wait (Turns k) needs = absurd needs
 wait_mark wait (WordFor k now) needs = absurd needs
 wait_mark wait (ReceiptNow k) needs = absurd needs
 wait_mark wait (ReadingFor k from bytes) needs = absurd needs
-wait_mark wait Call needs = absurd needs
-wait_mark wait (CallReading other flags) needs = absurd needs
-wait_mark wait (CallWord other flags now) needs = absurd needs
-wait_mark wait (Round k) needs = absurd needs
-wait_mark wait (RoundReading k from bytes) needs = absurd needs
+wait_mark wait (Calls []) needs = absurd needs
+wait_mark wait (Calls (call ∷ left)) needs = absurd needs
+wait_mark wait (CallWord call now left) needs = absurd needs
+wait_mark wait (Round receipts left) needs = absurd needs
+wait_mark wait (RoundReading receipts from bytes left) needs = absurd needs
 wait_mark wait (Act outcome behind) needs = absurd needs
 
 wait_count : (wait : ℕ) (need : Need) → NeedsCount need → NeedsCount (waiting wait need)
@@ -182,11 +182,11 @@ wait_count wait (Turns k) needs = needs
 wait_count wait (WordFor k now) needs = absurd needs
 wait_count wait (ReceiptNow k) needs = absurd needs
 wait_count wait (ReadingFor k from bytes) needs = absurd needs
-wait_count wait Call needs = absurd needs
-wait_count wait (CallReading other flags) needs = tt
-wait_count wait (CallWord other flags now) needs = absurd needs
-wait_count wait (Round k) needs = absurd needs
-wait_count wait (RoundReading k from bytes) needs = absurd needs
+wait_count wait (Calls []) needs = absurd needs
+wait_count wait (Calls (call ∷ left)) needs = tt
+wait_count wait (CallWord call now left) needs = absurd needs
+wait_count wait (Round receipts left) needs = absurd needs
+wait_count wait (RoundReading receipts from bytes left) needs = absurd needs
 wait_count wait (Act outcome behind) needs = absurd needs
 
 wait_reading : (wait : ℕ) (need : Need) → NeedsReading need → NeedsReading (waiting wait need)
@@ -195,11 +195,11 @@ wait_reading wait (Turns k) needs = needs
 wait_reading wait (WordFor k now) needs = absurd needs
 wait_reading wait (ReceiptNow k) needs = absurd needs
 wait_reading wait (ReadingFor k from bytes) needs = tt
-wait_reading wait Call needs = absurd needs
-wait_reading wait (CallReading other flags) needs = tt
-wait_reading wait (CallWord other flags now) needs = absurd needs
-wait_reading wait (Round k) needs = absurd needs
-wait_reading wait (RoundReading k from bytes) needs = tt
+wait_reading wait (Calls []) needs = absurd needs
+wait_reading wait (Calls (call ∷ left)) needs = tt
+wait_reading wait (CallWord call now left) needs = absurd needs
+wait_reading wait (Round receipts left) needs = absurd needs
+wait_reading wait (RoundReading receipts from bytes left) needs = tt
 wait_reading wait (Act outcome behind) needs = absurd needs
 
 wait_draw : (wait : ℕ) (need : Need) → NeedsWord need → NeedsWord (waiting wait need)
@@ -208,11 +208,11 @@ wait_draw wait (Turns k) needs = absurd needs
 wait_draw wait (WordFor k now) needs = tt
 wait_draw wait (ReceiptNow k) needs = absurd needs
 wait_draw wait (ReadingFor k from bytes) needs = absurd needs
-wait_draw wait Call needs = absurd needs
-wait_draw wait (CallReading other flags) needs = absurd needs
-wait_draw wait (CallWord other flags now) needs = tt
-wait_draw wait (Round k) needs = absurd needs
-wait_draw wait (RoundReading k from bytes) needs = absurd needs
+wait_draw wait (Calls []) needs = absurd needs
+wait_draw wait (Calls (call ∷ left)) needs = absurd needs
+wait_draw wait (CallWord call now left) needs = tt
+wait_draw wait (Round receipts left) needs = absurd needs
+wait_draw wait (RoundReading receipts from bytes left) needs = absurd needs
 wait_draw wait (Act outcome behind) needs = absurd needs
 
 wait_ends : (wait : ℕ) (why : Why) (deeds : List Deed) (ending : Ending) (taken : List Event) (need : Need) (a b : Faults)
@@ -226,7 +226,7 @@ wait_ends wait ClockFault deeds ending taken need a b takes ends = (ends.0, wait
 wait_ends wait EntropyFault deeds ending taken need a b takes ends = (ends.0, wait_draw wait need ends.1, ends.2)
 
 wait_runs : (conf : Conf) (wait flags : ℕ) (history : History) (a b : Seen) (kept kept' : ℕ) (old new : LifeEnd) (why : Why)
-    → Runs conf (CallReading 0 flags) Call history a b kept kept' old new why → Runs conf (CallReading wait flags) (behind_request wait) history a b kept kept' old new why
+    → Runs conf (one_call 0 flags) (Calls []) history a b kept kept' old new why → Runs conf (one_call wait flags) (behind_request wait []) history a b kept kept' old new why
 wait_runs conf wait flags history a b kept kept' old new why r = record {
   given = r.given;
   deeds = r.deeds;
@@ -246,7 +246,7 @@ wait_runs conf wait flags history a b kept kept' old new why r = record {
 -- the request of a call, of which no reply came
 pub record Asked (conf : Conf) (wait flags : ℕ) (history : History) (before now : Seen) (member : Member) (kept kept' : ℕ) (old new : LifeEnd) : Type 0 where
   pub outcome : Outcome
-  pub step : Stepped conf (CallReading wait flags) (behind_request wait) history before now member kept kept' old new Done (outcome ∷ [])
+  pub step : Stepped conf (one_call wait flags) (behind_request wait []) history before now member kept kept' old new Done (outcome ∷ [])
   pub moved : is_moved outcome ≡ false
   pub big : is_too_big outcome ≡ false
 
@@ -258,7 +258,7 @@ request_big : (conf : Conf) (history : History) (now : ℤ) (word flags : ℕ) �
 unfolding outcome_at
 request_big conf history now word flags = refl
 
-pub asked : (wait flags : ℕ) (old new : Running) (a b : Seen) (history : History) → StandsForHistory (member_of old) history → IsPart old new (CallReading 0 flags) (behind_request 0) a b Done
+pub asked : (wait flags : ℕ) (old new : Running) (a b : Seen) (history : History) → StandsForHistory (member_of old) history → IsPart old new (one_call 0 flags) (behind_request 0 []) a b Done
     → Asked (conf_of (member_of old)) wait flags history a b (member_of new) (kept_of old) (kept_of new) (totals_of old) (totals_of new)
 unfolding wait_runs
 asked wait flags old new a b history stands part =
@@ -284,16 +284,16 @@ asked wait flags old new a b history stands part =
 -- ---- The answer
 
 pub answers_fault : (conf : Conf) (wait flags : ℕ) (next : Need) (history : History) (a b : Seen) (member : Member) (kept kept' : ℕ) (old new : LifeEnd) (why : Why) → why ≢ Done
-    → Part conf (CallReading wait flags) next history a b member kept kept' old new why → Answers conf wait flags history a b member kept kept' old new (Err why)
+    → Part conf (one_call wait flags) next history a b member kept kept' old new why → Answers conf wait flags history a b member kept kept' old new (Err why)
 answers_fault conf wait flags next history a b member kept kept' old new why not part =
-    record { part = part_short conf (CallReading wait flags) next Call history a b member kept kept' old new why not part; answer = tt }
+    record { part = part_short conf (one_call wait flags) next (Calls []) history a b member kept kept' old new why not part; answer = tt }
 
 -- a call that doesn't wait
 pub answers_now : (conf : Conf) (wait flags : ℕ) (history : History) (a b : Seen) (member : Member) (kept kept' : ℕ) (old new : LifeEnd) → wait ≡ 0
-    → Part conf (CallReading wait flags) (behind_request wait) history a b member kept kept' old new Done → Answers conf wait flags history a b member kept kept' old new (Ok 0)
+    → Part conf (one_call wait flags) (behind_request wait []) history a b member kept kept' old new Done → Answers conf wait flags history a b member kept kept' old new (Ok 0)
 answers_now conf wait flags history a b member kept kept' old new is part =
-    let P : Need → Type 0 = λ (next : Need). Part conf (CallReading wait flags) next history a b member kept kept' old new Done in
-    let over : behind_request wait ≡ Call = ap behind_request is in
+    let P : Need → Type 0 = λ (next : Need). Part conf (one_call wait flags) next history a b member kept kept' old new Done in
+    let over : behind_request wait [] ≡ Calls [] = ap (λ (w : ℕ). behind_request w []) is in
     record { part = subst P over part; answer = rw is refl }
 
 -- what none of them is, the first one isn't counted as
@@ -313,15 +313,15 @@ abbrev pub answer_of : (flags n : ℕ) → ℕ
 answer_of flags n = if bit_and flags 2 == 0 then 0 else n
 
 module _ (wait flags : ℕ) (old mid : Running) (a b c : Seen) (member : Member) (end : LifeEnd) (history : History) (waits : (wait == 0) ≡ false)
-    (stands : StandsForHistory (member_of old) history) (part : IsPart old mid (CallReading 0 flags) (behind_request 0) a b Done) where
+    (stands : StandsForHistory (member_of old) history) (part : IsPart old mid (one_call 0 flags) (behind_request 0 []) a b Done) where
   ask : Asked (conf_of (member_of old)) wait flags history a b (member_of mid) (kept_of old) (kept_of mid) (totals_of old) (totals_of mid)
   ask = asked wait flags old mid a b history stands part
 
   -- with the round behind it
-  behind_round : Stepped (conf_of (member_of old)) (CallReading wait flags) (Round 16) history a b (member_of mid) (kept_of old) (kept_of mid) (totals_of old) (totals_of mid) Done (ask.outcome ∷ [])
+  behind_round : Stepped (conf_of (member_of old)) (one_call wait flags) (Round 16 []) history a b (member_of mid) (kept_of old) (kept_of mid) (totals_of old) (totals_of mid) Done (ask.outcome ∷ [])
   behind_round =
-      let P : Need → Type 0 = λ (next : Need). Stepped (conf_of (member_of old)) (CallReading wait flags) next history a b (member_of mid) (kept_of old) (kept_of mid) (totals_of old) (totals_of mid) Done (ask.outcome ∷ []) in
-      let round : behind_request wait ≡ Round 16 = ap (λ (b : Bool). if b then Call else Round 16) waits in
+      let P : Need → Type 0 = λ (next : Need). Stepped (conf_of (member_of old)) (one_call wait flags) next history a b (member_of mid) (kept_of old) (kept_of mid) (totals_of old) (totals_of mid) Done (ask.outcome ∷ []) in
+      let round : behind_request wait [] ≡ Round 16 [] = ap (λ (b : Bool). if b then Calls [] else Round 16 []) waits in
       subst P round ask.step
 
   -- a call that waits
@@ -335,7 +335,7 @@ module _ (wait flags : ℕ) (old mid : Running) (a b c : Seen) (member : Member)
       let answers : Is conf = subst Is one.part.is_set (round later one.part.stands) in
       let came = along (outcomes_in conf) later answers.part.runs.deeds in
       let outs = ask.outcome ∷ came in
-      let all = stepped_at conf (CallReading wait flags) (Round 16) Call history a b c (member_of mid) member (kept_of old) (kept_of mid) (kept_of mid) (totals_of old) (totals_of mid) end Done (ask.outcome ∷ []) came
+      let all = stepped_at conf (one_call wait flags) (Round 16 []) (Calls []) history a b c (member_of mid) member (kept_of old) (kept_of mid) (kept_of mid) (totals_of old) (totals_of mid) end Done (ask.outcome ∷ []) came
       one (record { part = answers.part; outs = λ is. refl }) in
       record {
         part = all.part;
@@ -354,7 +354,7 @@ module _ (wait flags : ℕ) (old mid : Running) (a b c : Seen) (member : Member)
       let later = history_after history (all_done one.part.runs.deeds one.part.runs.ending) in
       let Is : Conf → Type 0 = λ (set : Conf). RoundAnswers set later b c member (kept_of mid) (totals_of mid) end (Err why) in
       let answers : Is conf = subst Is one.part.is_set (round later one.part.stands) in
-      let all = stepped_at conf (CallReading wait flags) (Round 16) Call history a b c (member_of mid) member (kept_of old) (kept_of mid) (kept_of mid) (totals_of old) (totals_of mid) end why (ask.outcome ∷ []) []
+      let all = stepped_at conf (one_call wait flags) (Round 16 []) (Calls []) history a b c (member_of mid) member (kept_of old) (kept_of mid) (kept_of mid) (totals_of old) (totals_of mid) end why (ask.outcome ∷ []) []
       one (record { part = answers.part; outs = λ is. absurd (not is) }) in
       record { part = all.part; answer = tt }
 
@@ -365,7 +365,7 @@ not_zero zero not = absurd (not refl)
 not_zero (suc n) not = grind (arith, nat_tests)
 
 module _ (wait flags : ℕ) (old mid new : Running) (a b c : Seen) (history : History) (waits : wait ≢ 0)
-    (stands : StandsForHistory (member_of old) history) (part : IsPart old mid (CallReading 0 flags) (behind_request 0) a b Done) (sends : SendsNone mid new) where
+    (stands : StandsForHistory (member_of old) history) (part : IsPart old mid (one_call 0 flags) (behind_request 0 []) a b Done) (sends : SendsNone mid new) where
   same_mark : kept_of mid ≡ kept_of new
   same_mark = sym (ap kept_mark sends.keeper)
 

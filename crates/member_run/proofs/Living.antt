@@ -42,7 +42,7 @@ use Rattle.run_deeds.specs.declared.life_end.Why.{Why}
 use Rattle.run_deeds.specs.declared.life_end.Why.TheVariants.{Done, DiskFault, BadVersion, StampsSpent, ClockFault, EntropyFault, SinkFault}
 use Rattle.run_deeds.specs.Closing.{closing_by, closing_lines}
 use Rattle.run_deeds.specs.Counting.{ended, more, with_why}
-use Rattle.run_deeds.specs.Weaving.{Need, Start, Turns, WordFor, ReceiptNow, ReadingFor, Call, CallReading, CallWord, Round, RoundReading, Act, Stood, Weaves, none, acts, life, reads, draws, followed_by, posted_of, turns_of, weave}
+use Rattle.run_deeds.specs.Weaving.{Need, Start, Turns, WordFor, ReceiptNow, ReadingFor, Calls, CallWord, Round, RoundReading, Act, Stood, Weaves, none, acts, life, reads, draws, followed_by, posted_of, turns_of, weave}
 use Rattle.run_deeds.specs.Deeds.{Deed, Take, Print, Ending, Whole, NoRecord, NoLine, HasLine, IsWhole, all_done, along, cut_record, events_given, events_in, history_after, line_in, missing_in, posted_in, moves_in, printed, reasons_in, ticks_in}
 use Rattle.edge_seen.specs.Seen.{Seen}
 use Rattle.run_deeds.specs.Devices.{Faults, Given, IsBeforeTick, IsBehind, IsBetween, IsInCalls, IsToDo, LifeEndsBy, NeedsCount, NeedsDisk, NeedsMark, NeedsReading, NeedsReceipt, NeedsWord, SinkFailed, StopsAt, faults, living, faults_of}
@@ -223,11 +223,10 @@ at_deed event (Turns left) does = absurd does
 at_deed event (WordFor left now) does = absurd does
 at_deed event (ReceiptNow left) does = absurd does
 at_deed event (ReadingFor left from bytes) does = absurd does
-at_deed event Call does = absurd does
-at_deed event (CallReading wait flags) does = absurd does
-at_deed event (CallWord wait flags now) does = absurd does
-at_deed event (Round left) does = absurd does
-at_deed event (RoundReading left from bytes) does = absurd does
+at_deed event (Calls left) does = absurd does
+at_deed event (CallWord call now left) does = absurd does
+at_deed event (Round receipts left) does = absurd does
+at_deed event (RoundReading receipts from bytes left) does = absurd does
 
 missing_whole : (ending : Ending) (need : Need) → IsWhole ending → IsMissing need [] → IsMissing need (missing_in ending)
 missing_whole Whole need whole is = is
@@ -838,15 +837,15 @@ start_need turns (Turns left) = Turns left
 start_need turns (WordFor left now) = WordFor left now
 start_need turns (ReceiptNow left) = ReceiptNow left
 start_need turns (ReadingFor left from bytes) = ReadingFor left from bytes
-start_need turns Call = Turns turns
-start_need turns (CallReading wait flags) = CallReading wait flags
-start_need turns (CallWord wait flags now) = CallWord wait flags now
-start_need turns (Round left) = Round left
-start_need turns (RoundReading left from bytes) = RoundReading left from bytes
+start_need turns (Calls []) = Turns turns
+start_need turns (Calls (call ∷ left)) = Calls (call ∷ left)
+start_need turns (CallWord call now left) = CallWord call now left
+start_need turns (Round receipts left) = Round receipts left
+start_need turns (RoundReading receipts from bytes left) = RoundReading receipts from bytes left
 start_need turns (Act outcome behind) = Act outcome (start_need turns behind)
 
 start_weaves : {conf : Conf} {turns : ℕ} {stood : Stood} {history : History} {cs : List ClockCall} {ws : List ℕ} {ls : List LinkCall} {es : List Event} {need : Need}
-    → Weaves conf (Start stood Call) history cs ws ls es need → Weaves conf (Start stood (Turns turns)) history cs ws ls es (start_need turns need)
+    → Weaves conf (Start stood (Calls [])) history cs ws ls es need → Weaves conf (Start stood (Turns turns)) history cs ws ls es (start_need turns need)
 start_weaves none = none
 start_weaves (life none) = life none
 start_weaves (life (acts tried are none)) = life (acts tried are none)
@@ -856,14 +855,14 @@ abbrev AtStart : ℕ → List Event → Type 0
 AtStart mark es = (es ≡ []) ⊎ ((now : ℤ) × (es ≡ Life now mark ∷ []))
 
 at_start : {conf : Conf} {stood : Stood} {history : History} {cs : List ClockCall} {ws : List ℕ} {ls : List LinkCall} {es : List Event} {need : Need}
-    → Weaves conf (Start stood Call) history cs ws ls es need → AtStart stood.mark es
+    → Weaves conf (Start stood (Calls [])) history cs ws ls es need → AtStart stood.mark es
 at_start none = inl refl
 at_start (life {now = now} none) = inr (now, refl)
 at_start (life {now = now} (acts tried are none)) = inr (now, refl)
 
 -- before the Life
 start_none : {conf : Conf} {stood : Stood} {history : History} {cs : List ClockCall} {ws : List ℕ} {ls : List LinkCall} {es : List Event} {need : Need}
-    → Weaves conf (Start stood Call) history cs ws ls es need → (behind_act need ≡ Call) ⊎ (es ≡ [])
+    → Weaves conf (Start stood (Calls [])) history cs ws ls es need → (behind_act need ≡ Calls []) ⊎ (es ≡ [])
 start_none none = inr refl
 start_none (life none) = inl refl
 start_none (life (acts tried are none)) = inl refl
@@ -874,11 +873,11 @@ start_disk turns (Turns left) needs = needs
 start_disk turns (WordFor left now) needs = absurd needs
 start_disk turns (ReceiptNow left) needs = absurd needs
 start_disk turns (ReadingFor left from bytes) needs = absurd needs
-start_disk turns Call needs = absurd needs
-start_disk turns (CallReading wait flags) needs = tt
-start_disk turns (CallWord wait flags now) needs = absurd needs
-start_disk turns (Round left) needs = absurd needs
-start_disk turns (RoundReading left from bytes) needs = absurd needs
+start_disk turns (Calls []) needs = absurd needs
+start_disk turns (Calls (call ∷ rest)) needs = tt
+start_disk turns (CallWord call now left) needs = absurd needs
+start_disk turns (Round receipts left) needs = absurd needs
+start_disk turns (RoundReading receipts from bytes left) needs = absurd needs
 start_disk turns (Act outcome behind) needs = absurd needs
 
 start_mark : (turns : ℕ) (need : Need) → NeedsMark need → NeedsMark (start_need turns need)
@@ -887,11 +886,10 @@ start_mark turns (Turns left) needs = absurd needs
 start_mark turns (WordFor left now) needs = absurd needs
 start_mark turns (ReceiptNow left) needs = absurd needs
 start_mark turns (ReadingFor left from bytes) needs = absurd needs
-start_mark turns Call needs = absurd needs
-start_mark turns (CallReading wait flags) needs = absurd needs
-start_mark turns (CallWord wait flags now) needs = absurd needs
-start_mark turns (Round left) needs = absurd needs
-start_mark turns (RoundReading left from bytes) needs = absurd needs
+start_mark turns (Calls rest) needs = absurd needs
+start_mark turns (CallWord call now left) needs = absurd needs
+start_mark turns (Round receipts left) needs = absurd needs
+start_mark turns (RoundReading receipts from bytes left) needs = absurd needs
 start_mark turns (Act outcome behind) needs = absurd needs
 
 start_reading : (turns : ℕ) (need : Need) → NeedsReading need → NeedsReading (start_need turns need)
@@ -900,11 +898,11 @@ start_reading turns (Turns left) needs = needs
 start_reading turns (WordFor left now) needs = absurd needs
 start_reading turns (ReceiptNow left) needs = absurd needs
 start_reading turns (ReadingFor left from bytes) needs = tt
-start_reading turns Call needs = absurd needs
-start_reading turns (CallReading wait flags) needs = tt
-start_reading turns (CallWord wait flags now) needs = absurd needs
-start_reading turns (Round left) needs = absurd needs
-start_reading turns (RoundReading left from bytes) needs = tt
+start_reading turns (Calls []) needs = absurd needs
+start_reading turns (Calls (call ∷ rest)) needs = tt
+start_reading turns (CallWord call now left) needs = absurd needs
+start_reading turns (Round receipts left) needs = absurd needs
+start_reading turns (RoundReading receipts from bytes left) needs = tt
 start_reading turns (Act outcome behind) needs = absurd needs
 
 life_to_do : (turns : ℕ) (now : ℤ) (mark : ℕ) (need : Need) → IsToDo (Life now mark) need → IsToDo (Life now mark) (start_need turns need)
@@ -914,11 +912,10 @@ life_to_do turns now mark (Turns left) does = absurd does
 life_to_do turns now mark (WordFor left time) does = absurd does
 life_to_do turns now mark (ReceiptNow left) does = absurd does
 life_to_do turns now mark (ReadingFor left from bytes) does = absurd does
-life_to_do turns now mark Call does = absurd does
-life_to_do turns now mark (CallReading wait flags) does = absurd does
+life_to_do turns now mark (Calls rest) does = absurd does
 life_to_do turns now mark (CallWord wait flags time) does = absurd does
-life_to_do turns now mark (Round left) does = absurd does
-life_to_do turns now mark (RoundReading left from bytes) does = absurd does
+life_to_do turns now mark (Round receipts left) does = absurd does
+life_to_do turns now mark (RoundReading receipts from bytes left) does = absurd does
 
 -- the event that is not whole is the Life
 start_stops : (turns mark : ℕ) (deeds : List Deed) (ending : Ending) (taken : List Event) (need : Need) (a b : Faults) → all_done deeds ending ≡ map Take taken
@@ -943,13 +940,13 @@ start_behind turns (Turns left) = refl
 start_behind turns (WordFor left time) = refl
 start_behind turns (ReceiptNow left) = refl
 start_behind turns (ReadingFor left from bytes) = refl
-start_behind turns Call = refl
-start_behind turns (CallReading wait flags) = refl
+start_behind turns (Calls []) = refl
+start_behind turns (Calls (call ∷ left)) = refl
 start_behind turns (CallWord wait flags time) = refl
-start_behind turns (Round left) = refl
-start_behind turns (RoundReading left from bytes) = refl
+start_behind turns (Round receipts left) = refl
+start_behind turns (RoundReading receipts from bytes left) = refl
 
-first_turn : (turns : ℕ) (need : Need) (es : List Event) (e : Event) → (behind_act need ≡ Call) ⊎ (es ≡ []) → es ≡ e ∷ [] → behind_act (start_need turns need) ≡ Turns turns
+first_turn : (turns : ℕ) (need : Need) (es : List Event) (e : Event) → (behind_act need ≡ Calls []) ⊎ (es ≡ []) → es ≡ e ∷ [] → behind_act (start_need turns need) ≡ Turns turns
 first_turn turns need es e (inl is) only = start_behind turns need ∙ ap (start_need turns) is
 first_turn turns need es e (inr nothing) only = absurd (let bad : ⊥ = cc (nothing, only) in bad)
 
@@ -973,7 +970,7 @@ never_done EntropyFault of is = of
 never_done SinkFault of is = let bad : ⊥ = cc in bad
 
 start_runs : (conf : Conf) (turns : ℕ) (stood : Stood) (before now : Seen) (kept kept' : ℕ) (end : LifeEnd) (why : Why) → IsOfStart why
-    → Runs conf (Start stood Call) Call [] before now kept kept' (ended Done) end why → Runs conf (Start stood (Turns turns)) (Turns 0) [] before now kept kept' (ended Done) end why
+    → Runs conf (Start stood (Calls [])) (Calls []) [] before now kept kept' (ended Done) end why → Runs conf (Start stood (Turns turns)) (Turns 0) [] before now kept kept' (ended Done) end why
 start_runs conf turns stood before now kept kept' end why of r = record {
   given = r.given;
   deeds = r.deeds;
@@ -1017,7 +1014,7 @@ start_within conf mark taken (inr (now, is)) fit some =
     rw is (omega (arith, low))
 
 -- the disk is called before the Life
-disk_not_call : (need : Need) → NeedsMark need ⊎ NeedsDisk need → behind_act need ≡ Call → ⊥
+disk_not_call : (need : Need) → NeedsMark need ⊎ NeedsDisk need → behind_act need ≡ Calls [] → ⊥
 disk_not_call (Act outcome behind) (inl needs) is = needs
 disk_not_call (Act outcome behind) (inr needs) is = needs
 disk_not_call (Start stood next) needs is = let bad : ⊥ = cc is in bad
@@ -1025,20 +1022,20 @@ disk_not_call (Turns left) needs is = let bad : ⊥ = cc is in bad
 disk_not_call (WordFor left time) needs is = let bad : ⊥ = cc is in bad
 disk_not_call (ReceiptNow left) needs is = let bad : ⊥ = cc is in bad
 disk_not_call (ReadingFor left from bytes) needs is = let bad : ⊥ = cc is in bad
-disk_not_call Call (inl needs) is = needs
-disk_not_call Call (inr needs) is = needs
-disk_not_call (CallReading wait flags) needs is = let bad : ⊥ = cc is in bad
+disk_not_call (Calls []) (inl needs) is = needs
+disk_not_call (Calls []) (inr needs) is = needs
+disk_not_call (Calls (call ∷ left)) needs is = let bad : ⊥ = cc is in bad
 disk_not_call (CallWord wait flags time) needs is = let bad : ⊥ = cc is in bad
-disk_not_call (Round left) needs is = let bad : ⊥ = cc is in bad
-disk_not_call (RoundReading left from bytes) needs is = let bad : ⊥ = cc is in bad
+disk_not_call (Round receipts left) needs is = let bad : ⊥ = cc is in bad
+disk_not_call (RoundReading receipts from bytes left) needs is = let bad : ⊥ = cc is in bad
 
 before_life : (deeds : List Deed) (ending : Ending) (need : Need) (taken : List Event) → all_done deeds ending ≡ map Take taken → IsWhole ending → NeedsMark need ⊎ NeedsDisk need
-    → (behind_act need ≡ Call) ⊎ (events_given deeds ending ≡ []) → taken ≡ []
+    → (behind_act need ≡ Calls []) ⊎ (events_given deeds ending ≡ []) → taken ≡ []
 before_life deeds ending need taken takes whole needs (inl is) = absurd (disk_not_call need needs is)
 before_life deeds ending need taken takes whole needs (inr is) = sym (whole_given deeds ending taken whole takes) ∙ is
 
 kept_at_start : (why : Why) (conf : Conf) (stood : Stood) (entry exit : DiskTold) (before now : Seen) (deeds : List Deed) (ending : Ending) (need : Need) (taken : List Event) (told_before : List Told) → IsOfStart why
-    → all_done deeds ending ≡ map Take taken → (behind_act need ≡ Call) ⊎ (events_given deeds ending ≡ []) → LifeEndsBy why ending need (faults_of before) (faults_of now)
+    → all_done deeds ending ≡ map Take taken → (behind_act need ≡ Calls []) ⊎ (events_given deeds ending ≡ []) → LifeEndsBy why ending need (faults_of before) (faults_of now)
     → (why ≡ BadVersion → IfSome entry.content HasOtherVersion) → (why ≡ BadVersion → IsLeft entry exit) → KeptBy why stood taken told_before entry exit
 kept_at_start Done conf stood entry exit before now deeds ending need taken told_before of takes first ends version left = tt
 kept_at_start DiskFault conf stood entry exit before now deeds ending need taken told_before of takes first ends version left =
@@ -1052,7 +1049,7 @@ kept_at_start SinkFault conf stood entry exit before now deeds ending need taken
 
 -- what ended at the disk took no event
 begun_not : (why : Why) (before now : Seen) (deeds : List Deed) (ending : Ending) (need : Need) (taken : List Event) → IsOfStart why
-    → all_done deeds ending ≡ map Take taken → (behind_act need ≡ Call) ⊎ (events_given deeds ending ≡ []) → LifeEndsBy why ending need (faults_of before) (faults_of now)
+    → all_done deeds ending ≡ map Take taken → (behind_act need ≡ Calls []) ⊎ (events_given deeds ending ≡ []) → LifeEndsBy why ending need (faults_of before) (faults_of now)
     → taken ≢ [] → (why ≢ BadVersion) × (why ≢ DiskFault)
 begun_not Done before now deeds ending need taken of takes first ends some = absurd of
 begun_not DiskFault before now deeds ending need taken of takes first ends some = absurd (some (before_life deeds ending need taken takes ends.0 (inr ends.1) first))
@@ -1077,7 +1074,7 @@ from_mark entry exit stood image blocks stood_for from = (from.0, by_content ent
     by_content None is same = absurd same
     by_content (Some c) is same = omega (arith, is, same)
 
-pub lives_never : (conf : Conf) (turns : ℕ) (entry exit : DiskTold) (before now : Seen) (why : Why) → IsOfStart why → HasStopped conf Call entry before now why
+pub lives_never : (conf : Conf) (turns : ℕ) (entry exit : DiskTold) (before now : Seen) (why : Why) → IsOfStart why → HasStopped conf (Calls []) entry before now why
     → (why ≡ BadVersion → IfSome entry.content HasOtherVersion) → (why ≡ BadVersion → IsLeft entry exit) → (why ≢ BadVersion → why ≢ DiskFault → IfSome entry.content IsLoadable)
     → exit.time ≤ entry.time + 4 → KeepsMarks entry exit → KeepsLoadable entry exit → LeavesOnly entry exit (StandsAsBefore entry) → LeavesOnly entry exit (KeepsUnused entry)
     → (why ≢ BadVersion → why ≢ DiskFault → IsLoadedFrom entry exit)

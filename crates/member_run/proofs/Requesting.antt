@@ -25,7 +25,7 @@ use Rattle.edge_seen.specs.Seen.{Seen}
 use Rattle.run_deeds.specs.Devices.{IsBehind, NeedsCount, NeedsDisk, NeedsReading, NeedsWord, faults, nothing, living}
 use Rattle.run_deeds.specs.Marks.{Reserved, asks, last_count}
 use Rattle.run_deeds.specs.Parts.{Part}
-use Rattle.run_deeds.specs.Weaving.{Act, Need, Call, Round, Weaves, behind_request, none}
+use Rattle.run_deeds.specs.Weaving.{Act, Need, Calls, Round, SyncCall, Weaves, behind_request, none}
 use Rattle.run_deeds.proofs.Doing.{does_draw, does_read, does_then}
 use Rattle.run_deeds.proofs.Stopping.{does_still, tallies_none}
 use Rattle.member_run.specs.Reserving.{BlamedBy, Reserves}
@@ -98,12 +98,12 @@ takes_drawn others conf from next history event member link clock clock' words w
     (tallies_none conf history old) (λ i. faults (read i) (drew i) (disk i) kf of) takes weaves behind reserved
 
 -- behind the Resync of a call comes its round, or another call
-resync_behind : (now : ℤ) (word flags : ℕ) (b : Bool) → IsBehind (Resync now word flags) (if b then Call else Round 16)
-resync_behind now word flags true = tt
-resync_behind now word flags false = tt
+resync_behind : (now : ℤ) (word flags : ℕ) (left : List SyncCall) (b : Bool) → IsBehind (Resync now word flags) (if b then Calls left else Round 16 left)
+resync_behind now word flags left true = tt
+resync_behind now word flags left false = tt
 
-pub call_behind : (now : ℤ) (word flags wait : ℕ) → IsBehind (Resync now word flags) (behind_request wait)
-call_behind now word flags wait = resync_behind now word flags (wait == 0)
+pub call_behind : (now : ℤ) (word flags wait : ℕ) (left : List SyncCall) → IsBehind (Resync now word flags) (behind_request wait left)
+call_behind now word flags wait left = resync_behind now word flags left (wait == 0)
 
 -- ---- The counts reserved
 

@@ -1,5 +1,5 @@
 -- The receipts of a round, and its result.
-use Rattle.std.proofs.Common.{◌≡◌, ◌≢◌, inl, inr, ◌<◌, ◌+◌, ◌==◌, cond, ℕ, suc, ℤ, Bool, true, false, List, [], ◌∷◌, ◌++◌, map, reverse, Option, Ok, Err, if◌then◌else◌, refl, sym, ◌∙◌, ap, subst, arith}
+use Rattle.std.proofs.Common.{◌≡◌, ◌≢◌, inl, inr, ◌<◌, ◌+◌, ◌==◌, cond, ℕ, zero, suc, ℤ, Bool, true, false, List, [], ◌∷◌, ◌++◌, map, reverse, Option, Ok, Err, if◌then◌else◌, refl, sym, ◌∙◌, ap, subst, arith}
 use Rattle.std.specs.List.{count_by, sum_by}
 use Rattle.std.proofs.lemmas.List.{append-nil, append_cancel_right, map-append, reverse-reverse}
 use Rattle.std.proofs.lemmas.List.Sums.{sum_by-append}
@@ -23,7 +23,7 @@ use Rattle.run_deeds.specs.declared.life_end.LifeEnd.{LifeEnd}
 use Rattle.run_deeds.specs.declared.life_end.Why.{Why}
 use Rattle.run_deeds.specs.declared.life_end.Why.TheVariants.{Done, ClockFault}
 use Rattle.run_deeds.specs.Counting.{with_lost, with_quiet}
-use Rattle.run_deeds.specs.Weaving.{Act, Need, Call, Round, RoundReading, Weaves, none, round_gets, round_quiet, round_lost, round_arrives, behind_arrival, followed_by, round_of}
+use Rattle.run_deeds.specs.Weaving.{Act, Need, Calls, Round, RoundReading, Weaves, none, round_gets, round_quiet, round_lost, round_arrives, behind_arrival, followed_by, round_of}
 use Rattle.run_deeds.specs.Deeds.{Deed, Take, Ending, Whole, NoRecord, NoLine, IsWhole, along, all_done, history_after}
 use Rattle.edge_seen.specs.Seen.{Seen}
 use Rattle.run_deeds.specs.Devices.{Faults, IsBehind, LifeEndsBy, faults, nothing, living, faults_of}
@@ -159,24 +159,22 @@ stepped_then conf from mid next history a b c m m' k0 k1 k2 old between new why 
 -- ---- One receipt
 
 -- a round may take so many receipts still
-round_left : (k : ℕ) → round_of (suc k) ≡ Round (suc k)
-round_left k = ap (λ (b : Bool). if b then Call else Round (suc k)) (let more : (suc k == 0) ≡ false = grind (arith, nat_tests) in more)
 
 pub quiet_step : (others : Seen) (conf : Conf) (k : ℕ) (history : History) (member : Member) (link link' : Option (List LinkCall)) (clock : Option (List ClockCall)) (words capture out : Option (List ℕ)) (lf lf' : ℕ) (f : Faults) (kept : ℕ) (old : LifeEnd)
     → conf_of member ≡ conf → StandsForHistory member history → Grew link link' (Receive Quiet ∷ []) → ReceiptCounts Quiet lf lf'
-    → Stepped conf (Round (suc k)) Call history (living others link clock words capture out lf f) (living others link' clock words capture out lf' f) member kept kept old (with_quiet old) Done []
+    → Stepped conf (Round (suc k) []) (Calls []) history (living others link clock words capture out lf f) (living others link' clock words capture out lf' f) member kept kept old (with_quiet old) Done []
 unfolding quiet_part
 quiet_step others conf k history member link link' clock words capture out lf lf' f kept old is_set stands gave counts = record {
-  part = quiet_part others conf (Round (suc k)) Call history member link link' clock words capture out lf lf' f kept old is_set stands gave counts (round_quiet none);
+  part = quiet_part others conf (Round (suc k) []) (Calls []) history member link link' clock words capture out lf lf' f kept old is_set stands gave counts (round_quiet none);
   outs = λ is. refl;
 }
 
 pub lost_step : (others : Seen) (conf : Conf) (k : ℕ) (history : History) (member : Member) (link link' : Option (List LinkCall)) (clock : Option (List ClockCall)) (words capture out : Option (List ℕ)) (lf lf' : ℕ) (f : Faults) (kept : ℕ) (old : LifeEnd)
     → conf_of member ≡ conf → StandsForHistory member history → Grew link link' (Receive Failed ∷ []) → ReceiptCounts Failed lf lf'
-    → Stepped conf (Round (suc k)) (round_of k) history (living others link clock words capture out lf f) (living others link' clock words capture out lf' f) member kept kept old (with_lost old) Done []
+    → Stepped conf (Round (suc k) []) (round_of k []) history (living others link clock words capture out lf f) (living others link' clock words capture out lf' f) member kept kept old (with_lost old) Done []
 unfolding lost_part
 lost_step others conf k history member link link' clock words capture out lf lf' f kept old is_set stands gave counts = record {
-  part = lost_part others conf (Round (suc k)) (round_of k) history member link link' clock words capture out lf lf' f kept old is_set stands gave counts (round_lost none);
+  part = lost_part others conf (Round (suc k) []) (round_of k []) history member link link' clock words capture out lf lf' f kept old is_set stands gave counts (round_lost none);
   outs = λ is. refl;
 }
 
@@ -185,27 +183,27 @@ got_tallies : (conf : Conf) (history : History) (from : Addr) (bytes : List ℕ)
 got_tallies conf history from bytes end = record { sent = refl; moved = refl; refused = refl; quiet = refl; lost = refl; turns = refl; why = refl }
 
 -- behind an arrival comes another receipt of the round, or another call
-arrive_behind : (time : ℤ) (from : Addr) (bytes : List ℕ) (moved over : Bool) (k : ℕ) → IsBehind (Arrive time from bytes) (if moved then Call else (if over then Call else Round k))
-arrive_behind time from bytes true over k = tt
-arrive_behind time from bytes false true k = tt
-arrive_behind time from bytes false false k = tt
+arrive_behind : (time : ℤ) (from : Addr) (bytes : List ℕ) (moved : Bool) (k : ℕ) → IsBehind (Arrive time from bytes) (if moved then Calls [] else round_of k [])
+arrive_behind time from bytes true k = tt
+arrive_behind time from bytes false zero = tt
+arrive_behind time from bytes false (suc k) = tt
 
-arrival_behind : (time : ℤ) (from : Addr) (bytes : List ℕ) (k : ℕ) (outcome : Outcome) → IsBehind (Arrive time from bytes) (behind_arrival k outcome)
-arrival_behind time from bytes k outcome = arrive_behind time from bytes (is_some (offset_moved outcome)) (k == 0) k
+arrival_behind : (time : ℤ) (from : Addr) (bytes : List ℕ) (k : ℕ) (outcome : Outcome) → IsBehind (Arrive time from bytes) (behind_arrival k outcome [])
+arrival_behind time from bytes k outcome = arrive_behind time from bytes (is_some (offset_moved outcome)) k
 
 -- with which an arrival is taken, whichever call ends it
 got_runs : (others : Seen) (conf : Conf) (k : ℕ) (history : History) (member : Member) (from : Addr) (bytes : List ℕ) (link link' : Option (List LinkCall)) (clock : Option (List ClockCall)) (words capture out : Option (List ℕ)) (lf lf' : ℕ) (f : Faults) (after : Seen) (kept : ℕ) (old new : LifeEnd) (why : Why) (time : ℤ)
     → Grew link link' (Receive (Got from bytes) ∷ []) → ReceiptCounts (Got from bytes) lf lf'
     → (takes : Takes conf history (Arrive time from bytes) (Read time ∷ []) (living others link' clock words capture out lf' f) after member old new why)
-    → (next : Need) → behind_arrival k (outcome_at conf history (Arrive time from bytes)) ≡ next
-    → Runs conf (Round (suc k)) next history (living others link clock words capture out lf f) after kept kept old new why
+    → (next : Need) → behind_arrival k (outcome_at conf history (Arrive time from bytes)) [] ≡ next
+    → Runs conf (Round (suc k) []) next history (living others link clock words capture out lf f) after kept kept old new why
 got_runs others conf k history member from bytes link link' clock words capture out lf lf' f after kept old new why time gave counts takes next behind =
     let got = Receive (Got from bytes) ∷ [] in
     let a = living others link clock words capture out lf f in
     let b = living others link' clock words capture out lf' f in
     let outcome = outcome_at conf history (Arrive time from bytes) in
     let B : Need → Type 0 = λ (n : Need). IsBehind (Arrive time from bytes) n in
-    runs_takes conf (Round (suc k)) next history (Arrive time from bytes) (record { clock = []; words = []; link = got }) (Read time ∷ []) a b after member kept kept old new why
+    runs_takes conf (Round (suc k) []) next history (Arrive time from bytes) (record { clock = []; words = []; link = got }) (Read time ∷ []) a b after member kept kept old new why
     (does_receive others conf history link link' clock words capture out lf lf' f (Got from bytes) gave counts) (got_tallies conf history from bytes old) refl takes
     (λ cs ls need s. round_gets (round_arrives (subst (λ (n : Need). Weaves conf (Act outcome n) (Arrive time from bytes ∷ history) cs [] ls [] need) (sym behind) s)))
     (subst B behind (arrival_behind time from bytes k outcome)) (λ is. arrival_reserved conf history time from bytes kept)
@@ -213,8 +211,8 @@ got_runs others conf k history member from bytes link link' clock words capture 
 pub got_step : (others : Seen) (conf : Conf) (k : ℕ) (history : History) (member : Member) (from : Addr) (bytes : List ℕ) (link link' : Option (List LinkCall)) (clock : Option (List ClockCall)) (words capture out : Option (List ℕ)) (lf lf' : ℕ) (f : Faults) (after : Seen) (kept : ℕ) (old new : LifeEnd) (outcome : Outcome) (next : Need)
     → Grew link link' (Receive (Got from bytes) ∷ []) → ReceiptCounts (Got from bytes) lf lf'
     → TakesTo conf history (λ time. Arrive time from bytes) (living others link' clock words capture out lf' f) after member old new outcome
-    → behind_arrival k outcome ≡ next
-    → Stepped conf (Round (suc k)) next history (living others link clock words capture out lf f) after member kept kept old new Done (outcome ∷ [])
+    → behind_arrival k outcome [] ≡ next
+    → Stepped conf (Round (suc k) []) next history (living others link clock words capture out lf f) after member kept kept old new Done (outcome ∷ [])
 unfolding got_runs
 got_step others conf k history member from bytes link link' clock words capture out lf lf' f after kept old new outcome next gave counts to behind =
     let t = to.takes in
@@ -222,7 +220,7 @@ got_step others conf k history member from bytes link link' clock words capture 
     let taken : t.taken ≡ event ∷ [] = sym (whole_given t.deeds t.ending t.taken t.ends.0 t.takes) ∙ t.events in
     record {
       part = record {
-        runs = got_runs others conf k history member from bytes link link' clock words capture out lf lf' f after kept old new Done to.time gave counts t next (ap (behind_arrival k) (sym to.leads) ∙ behind);
+        runs = got_runs others conf k history member from bytes link link' clock words capture out lf lf' f after kept old new Done to.time gave counts t next (ap (λ (o : Outcome). behind_arrival k o []) (sym to.leads) ∙ behind);
         is_set = t.is_set;
         stands = t.stands;
       };
@@ -235,7 +233,7 @@ got_step others conf k history member from bytes link link' clock words capture 
 pub fault_step : (others : Seen) (conf : Conf) (k : ℕ) (history : History) (member : Member) (from : Addr) (bytes : List ℕ) (link link' : Option (List LinkCall)) (clock : Option (List ClockCall)) (words capture out : Option (List ℕ)) (lf lf' : ℕ) (f : Faults) (after : Seen) (kept : ℕ) (old new : LifeEnd) (why : Why) → why ≢ Done
     → Grew link link' (Receive (Got from bytes) ∷ []) → ReceiptCounts (Got from bytes) lf lf'
     → TakesAt conf history (λ time. Arrive time from bytes) (living others link' clock words capture out lf' f) after member old new why
-    → Stepped conf (Round (suc k)) Call history (living others link clock words capture out lf f) after member kept kept old new why []
+    → Stepped conf (Round (suc k) []) (Calls []) history (living others link clock words capture out lf f) after member kept kept old new why []
 unfolding got_runs
 fault_step others conf k history member from bytes link link' clock words capture out lf lf' f after kept old new why not gave counts (inl stops) =
     let got = Receive (Got from bytes) ∷ [] in
@@ -243,7 +241,7 @@ fault_step others conf k history member from bytes link link' clock words captur
     let b = living others link' clock words capture out lf' f in
     record {
       part = rw (stops.is_clock, stops.totals)
-          (part_stops conf (Round (suc k)) (RoundReading k from bytes) Call history (record { clock = []; words = []; link = got }) a after member kept kept old ClockFault
+          (part_stops conf (Round (suc k) []) (RoundReading k from bytes []) (Calls []) history (record { clock = []; words = []; link = got }) a after member kept kept old ClockFault
           stops.is_set stops.stands (λ is. let bad : ⊥ = cc in bad) (got_tallies conf history from bytes old) (round_gets none)
           (does_then conf history (record { clock = []; words = []; link = got }) nothing [] [] Whole a b after
           (does_receive others conf history link link' clock words capture out lf lf' f (Got from bytes) gave counts) stops.does)
@@ -251,9 +249,9 @@ fault_step others conf k history member from bytes link link' clock words captur
       outs = λ is. absurd (not is);
     }
 fault_step others conf k history member from bytes link link' clock words capture out lf lf' f after kept old new why not gave counts (inr (time, takes)) =
-    let next = behind_arrival k (outcome_at conf history (Arrive time from bytes)) in
+    let next = behind_arrival k (outcome_at conf history (Arrive time from bytes)) [] in
     record {
-      part = part_short conf (Round (suc k)) next Call history (living others link clock words capture out lf f) after member kept kept old new why not
+      part = part_short conf (Round (suc k) []) next (Calls []) history (living others link clock words capture out lf f) after member kept kept old new why not
           (record {
             runs = got_runs others conf k history member from bytes link link' clock words capture out lf lf' f after kept old new why time gave counts takes next refl;
             is_set = takes.is_set;
@@ -267,7 +265,7 @@ fault_step others conf k history member from bytes link link' clock words captur
 -- So many receipts may be taken still. None of the replies so far was accepted, and this is the result so far.
 pub record Rounded (left : ℕ) (history : History) (old new : Running) (before now : Seen) (result : ℕ) : Type 0 where
   pub came : List Outcome
-  pub step : Stepped (conf_of (member_of old)) (Round 16) (round_of left) history before now (member_of new) (kept_of old) (kept_of old) (totals_of old) (totals_of new) Done came
+  pub step : Stepped (conf_of (member_of old)) (Round 16 []) (round_of left []) history before now (member_of new) (kept_of old) (kept_of old) (totals_of old) (totals_of new) Done came
   pub results : Results came result
 
 pub rounded_none : (history : History) (running : Running) (now : Seen) → StandsForHistory (member_of running) history → Rounded 16 history running running now now 1
@@ -276,7 +274,7 @@ rounded_none history running now stands = record {
   came = [];
   step = record {
     part = record {
-      runs = runs_none (conf_of (member_of running)) (Round 16) history now (kept_of running) (totals_of running) stands.grows;
+      runs = runs_none (conf_of (member_of running)) (Round 16 []) history now (kept_of running) (totals_of running) stands.grows;
       is_set = refl;
       stands = stands;
     };
@@ -288,22 +286,21 @@ rounded_none history running now stands = record {
 -- one receipt more, whatever comes of it
 pub rounded_then : (k : ℕ) (history : History) (old mid : Running) (a b c : Seen) (member : Member) (end : LifeEnd) (why : Why) (result : ℕ) (next : Need) (outs : List Outcome)
     (was : Rounded (suc k) history old mid a b result)
-    → ((later : History) → StandsForHistory (member_of mid) later → Stepped (conf_of (member_of mid)) (Round (suc k)) next later b c member (kept_of old) (kept_of old) (totals_of mid) end why outs)
-    → Stepped (conf_of (member_of old)) (Round 16) next history a c member (kept_of old) (kept_of old) (totals_of old) end why (was.came ++ outs)
+    → ((later : History) → StandsForHistory (member_of mid) later → Stepped (conf_of (member_of mid)) (Round (suc k) []) next later b c member (kept_of old) (kept_of old) (totals_of mid) end why outs)
+    → Stepped (conf_of (member_of old)) (Round 16 []) next history a c member (kept_of old) (kept_of old) (totals_of old) end why (was.came ++ outs)
 rounded_then k history old mid a b c member end why result next outs was one =
     let conf = conf_of (member_of old) in
-    let P : Need → Type 0 = λ (n : Need). Stepped conf (Round 16) n history a b (member_of mid) (kept_of old) (kept_of old) (totals_of old) (totals_of mid) Done was.came in
-    stepped_then conf (Round 16) (Round (suc k)) next history a b c (member_of mid) member (kept_of old) (kept_of old) (kept_of old) (totals_of old) (totals_of mid) end why was.came outs
-    (subst P (round_left k) was.step) one
+    stepped_then conf (Round 16 []) (Round (suc k) []) next history a b c (member_of mid) member (kept_of old) (kept_of old) (kept_of old) (totals_of old) (totals_of mid) end why was.came outs
+    was.step one
 
 -- the round is over
 pub answers_ok : (conf : Conf) (history : History) (before now : Seen) (member : Member) (kept : ℕ) (old new : LifeEnd) (came : List Outcome) (n : ℕ)
-    → Stepped conf (Round 16) Call history before now member kept kept old new Done came → n ≡ round_result came
+    → Stepped conf (Round 16 []) (Calls []) history before now member kept kept old new Done came → n ≡ round_result came
     → RoundAnswers conf history before now member kept old new (Ok n)
 answers_ok conf history before now member kept old new came n step is = record { part = step.part; answer = is ∙ ap round_result (sym (step.outs refl)) }
 
 pub answers_err : (conf : Conf) (history : History) (before now : Seen) (member : Member) (kept : ℕ) (old new : LifeEnd) (came : List Outcome) (why : Why)
-    → Stepped conf (Round 16) Call history before now member kept kept old new why came → RoundAnswers conf history before now member kept old new (Err why)
+    → Stepped conf (Round 16 []) (Calls []) history before now member kept kept old new why came → RoundAnswers conf history before now member kept old new (Err why)
 answers_err conf history before now member kept old new came why step = record { part = step.part; answer = tt }
 
 -- a round between two receipts
@@ -351,7 +348,7 @@ module _ (done : ℕ) (old mid : Running) (result : ℕ) (words : Option (List �
   rounds_got new result' from bytes outcome l3 c2 k2 o2 lf3 cf2 kf2 of2 gave counts leads begun sends moved results =
       let one = one_left 16 done was.left below was.sum in
       let k = one.0 in
-      let behind : behind_arrival k outcome ≡ round_of k = ap (λ (b : Bool). if b then Call else round_of k) moved in
+      let behind : behind_arrival k outcome [] ≡ round_of k [] = ap (λ (b : Bool). if b then Calls [] else round_of k []) moved in
       record {
         left = k;
         sum = omega (arith, was.sum, one.1);
@@ -361,10 +358,10 @@ module _ (done : ℕ) (old mid : Running) (result : ℕ) (words : Option (List �
             let before = earlier k one.1 others history stands in
             record {
               came = before.came ++ outcome ∷ [];
-              step = rounded_then k history old mid _ _ _ (member_of new) (totals_of new) Done result (round_of k) (outcome ∷ []) before
+              step = rounded_then k history old mid _ _ _ (member_of new) (totals_of new) Done result (round_of k []) (outcome ∷ []) before
                   (λ later stood.
                   got_step others (conf_of (member_of mid)) k later (member_of new) from bytes l1 l2 c1 words k1 o1 lf1 lf2 (faults cf1 entropy disk kf1 of1)
-                  (living others l3 c2 words k2 o2 lf3 (faults cf2 entropy disk kf2 of2)) (kept_of old) (totals_of mid) (totals_of new) outcome (round_of k) gave counts
+                  (living others l3 c2 words k2 o2 lf3 (faults cf2 entropy disk kf2 of2)) (kept_of old) (totals_of mid) (totals_of new) outcome (round_of k []) gave counts
                   (leads others later stood) behind);
               results = results before.came before.results;
             };
@@ -385,7 +382,7 @@ module _ (done : ℕ) (old mid : Running) (result : ℕ) (words : Option (List �
             let before = earlier k one.1 others history stands in
             record {
               came = before.came ++ [];
-              step = rounded_then k history old mid _ _ _ (member_of mid) (with_lost mid.totals) Done result (round_of k) [] before
+              step = rounded_then k history old mid _ _ _ (member_of mid) (with_lost mid.totals) Done result (round_of k []) [] before
                   (λ later stood. lost_step others (conf_of (member_of mid)) k later (member_of mid) l1 l2 c1 words k1 o1 lf1 lf2 (faults cf1 entropy disk kf1 of1) (kept_of old) (totals_of mid) refl stood gave counts);
               results = rw append-nil before.results;
             };
@@ -403,13 +400,13 @@ module _ (done : ℕ) (old mid : Running) (result : ℕ) (words : Option (List �
   round_moved member end from bytes outcome l3 c2 k2 o2 lf3 cf2 kf2 of2 gave counts leads moved others history stands =
       let one = one_left 16 done was.left below was.sum in
       let k = one.0 in
-      let behind : behind_arrival k outcome ≡ Call = ap (λ (b : Bool). if b then Call else round_of k) moved in
+      let behind : behind_arrival k outcome [] ≡ Calls [] = ap (λ (b : Bool). if b then Calls [] else round_of k []) moved in
       let before = earlier k one.1 others history stands in
       answers_ok (conf_of (member_of old)) history _ _ member (kept_of old) (totals_of old) end (before.came ++ outcome ∷ []) 0
-      (rounded_then k history old mid _ _ _ member end Done result Call (outcome ∷ []) before
+      (rounded_then k history old mid _ _ _ member end Done result (Calls []) (outcome ∷ []) before
       (λ later stood.
       got_step others (conf_of (member_of mid)) k later member from bytes l1 l2 c1 words k1 o1 lf1 lf2 (faults cf1 entropy disk kf1 of1)
-      (living others l3 c2 words k2 o2 lf3 (faults cf2 entropy disk kf2 of2)) (kept_of old) (totals_of mid) end outcome Call gave counts
+      (living others l3 c2 words k2 o2 lf3 (faults cf2 entropy disk kf2 of2)) (kept_of old) (totals_of mid) end outcome (Calls []) gave counts
       (leads others later stood) behind))
       (results_moved before.came outcome result before.results moved)
 
@@ -422,7 +419,7 @@ module _ (done : ℕ) (old mid : Running) (result : ℕ) (words : Option (List �
       let k = one.0 in
       let before = earlier k one.1 others history stands in
       answers_ok (conf_of (member_of old)) history _ _ (member_of mid) (kept_of old) (totals_of old) (with_quiet (totals_of mid)) (before.came ++ []) result
-      (rounded_then k history old mid _ _ _ (member_of mid) (with_quiet (totals_of mid)) Done result Call [] before
+      (rounded_then k history old mid _ _ _ (member_of mid) (with_quiet (totals_of mid)) Done result (Calls []) [] before
       (λ later stood. quiet_step others (conf_of (member_of mid)) k later (member_of mid) l1 l2 c1 words k1 o1 lf1 lf2 (faults cf1 entropy disk kf1 of1) (kept_of old) (totals_of mid) refl stood gave counts))
       (rw append-nil before.results.is)
 
@@ -440,7 +437,7 @@ module _ (done : ℕ) (old mid : Running) (result : ℕ) (words : Option (List �
       let k = one.0 in
       let before = earlier k one.1 others history stands in
       answers_err (conf_of (member_of old)) history _ _ member (kept_of old) (totals_of old) end (before.came ++ []) why
-      (rounded_then k history old mid _ _ _ member end why result Call [] before
+      (rounded_then k history old mid _ _ _ member end why result (Calls []) [] before
       (λ later stood.
       fault_step others (conf_of (member_of mid)) k later member from bytes l1 l2 c1 words k1 o1 lf1 lf2 (faults cf1 entropy disk kf1 of1)
       (living others l3 c2 words k2 o2 lf3 (faults cf2 entropy disk kf2 of2)) (kept_of old) (totals_of mid) end why not gave counts (takes others later stood)))

@@ -23,7 +23,7 @@ use Rattle.stamp_keep.proofs.Moments.{and_then, started, weaker}
 use Rattle.run_deeds.specs.declared.life_end.LifeEnd.{LifeEnd}
 use Rattle.run_deeds.specs.declared.life_end.Why.{Why}
 use Rattle.run_deeds.specs.declared.life_end.Why.TheVariants.{Done, DiskFault, BadVersion, StampsSpent, ClockFault, EntropyFault, SinkFault}
-use Rattle.run_deeds.specs.Weaving.{Need, Stood, Start, Turns, WordFor, ReceiptNow, ReadingFor, Call, CallReading, CallWord, Round, RoundReading, Act, Weaves, none, acts, life, reads, draws, gets, quiet, lost, arrives, followed_by, turns_of}
+use Rattle.run_deeds.specs.Weaving.{Need, Stood, Start, Turns, WordFor, ReceiptNow, ReadingFor, Calls, CallWord, Round, RoundReading, Act, Weaves, none, acts, life, reads, draws, gets, quiet, lost, arrives, followed_by, turns_of}
 use Rattle.run_deeds.specs.Deeds.{Deed, Take, Ending, Whole, NoRecord, NoLine, IsWhole, all_done, events_given, history_after, missing_in}
 use Rattle.edge_seen.specs.Seen.{Seen}
 use Rattle.run_deeds.specs.Devices.{Faults, IsBeforeTick, IsBehind, IsBetween, IsInCalls, IsToDo, LifeEndsBy, NeedsCount, NeedsDisk, NeedsMark, NeedsReading, NeedsReceipt, NeedsWord, nothing, faults_of}
@@ -148,11 +148,10 @@ raised left (Turns (suc k)) = Turns (suc left)
 raised left (WordFor k now) = WordFor left now
 raised left (ReceiptNow k) = ReceiptNow left
 raised left (ReadingFor k from bytes) = ReadingFor left from bytes
-raised left Call = Call
-raised left (CallReading wait flags) = CallReading wait flags
-raised left (CallWord wait flags now) = CallWord wait flags now
-raised left (Round k) = Round k
-raised left (RoundReading k from bytes) = RoundReading k from bytes
+raised left (Calls rest) = Calls rest
+raised left (CallWord call now rest) = CallWord call now rest
+raised left (Round k rest) = Round k rest
+raised left (RoundReading k from bytes rest) = RoundReading k from bytes rest
 raised left (Act outcome behind) = Act outcome (raised left behind)
 
 raise_reading : {conf : Conf} {left : ℕ} {from : Addr} {bytes : List ℕ} {history : History} {cs : List ClockCall} {ws : List ℕ} {ls : List LinkCall} {es : List Event} {need : Need}
@@ -235,11 +234,11 @@ needs_reading left (Turns (suc k)) needs = omega arith
 needs_reading left (WordFor k now) needs = absurd needs
 needs_reading left (ReceiptNow k) needs = absurd needs
 needs_reading left (ReadingFor k from bytes) needs = tt
-needs_reading left Call needs = absurd needs
-needs_reading left (CallReading wait flags) needs = tt
-needs_reading left (CallWord wait flags now) needs = absurd needs
-needs_reading left (Round k) needs = absurd needs
-needs_reading left (RoundReading k from bytes) needs = tt
+needs_reading left (Calls []) needs = absurd needs
+needs_reading left (Calls (call ∷ rest)) needs = tt
+needs_reading left (CallWord call now rest) needs = absurd needs
+needs_reading left (Round k rest) needs = absurd needs
+needs_reading left (RoundReading k from bytes rest) needs = tt
 needs_reading left (Act outcome behind) needs = absurd needs
 
 needs_word : (left : ℕ) (need : Need) → NeedsWord need → NeedsWord (raised left need)
@@ -249,11 +248,10 @@ needs_word left (Turns (suc k)) needs = absurd needs
 needs_word left (WordFor k now) needs = tt
 needs_word left (ReceiptNow k) needs = absurd needs
 needs_word left (ReadingFor k from bytes) needs = absurd needs
-needs_word left Call needs = absurd needs
-needs_word left (CallReading wait flags) needs = absurd needs
-needs_word left (CallWord wait flags now) needs = tt
-needs_word left (Round k) needs = absurd needs
-needs_word left (RoundReading k from bytes) needs = absurd needs
+needs_word left (Calls rest) needs = absurd needs
+needs_word left (CallWord call now rest) needs = tt
+needs_word left (Round k rest) needs = absurd needs
+needs_word left (RoundReading k from bytes rest) needs = absurd needs
 needs_word left (Act outcome behind) needs = absurd needs
 
 needs_count : (left : ℕ) (need : Need) → NeedsCount need → NeedsCount (raised left need)
@@ -263,11 +261,11 @@ needs_count left (Turns (suc k)) needs = omega arith
 needs_count left (WordFor k now) needs = absurd needs
 needs_count left (ReceiptNow k) needs = absurd needs
 needs_count left (ReadingFor k from bytes) needs = absurd needs
-needs_count left Call needs = absurd needs
-needs_count left (CallReading wait flags) needs = tt
-needs_count left (CallWord wait flags now) needs = absurd needs
-needs_count left (Round k) needs = absurd needs
-needs_count left (RoundReading k from bytes) needs = absurd needs
+needs_count left (Calls []) needs = absurd needs
+needs_count left (Calls (call ∷ rest)) needs = tt
+needs_count left (CallWord call now rest) needs = absurd needs
+needs_count left (Round k rest) needs = absurd needs
+needs_count left (RoundReading k from bytes rest) needs = absurd needs
 needs_count left (Act outcome behind) needs = absurd needs
 
 needs_disk : (left : ℕ) (need : Need) → NeedsDisk need → NeedsDisk (raised left need)
@@ -277,11 +275,11 @@ needs_disk left (Turns (suc k)) needs = omega arith
 needs_disk left (WordFor k now) needs = absurd needs
 needs_disk left (ReceiptNow k) needs = absurd needs
 needs_disk left (ReadingFor k from bytes) needs = absurd needs
-needs_disk left Call needs = absurd needs
-needs_disk left (CallReading wait flags) needs = tt
-needs_disk left (CallWord wait flags now) needs = absurd needs
-needs_disk left (Round k) needs = absurd needs
-needs_disk left (RoundReading k from bytes) needs = absurd needs
+needs_disk left (Calls []) needs = absurd needs
+needs_disk left (Calls (call ∷ rest)) needs = tt
+needs_disk left (CallWord call now rest) needs = absurd needs
+needs_disk left (Round k rest) needs = absurd needs
+needs_disk left (RoundReading k from bytes rest) needs = absurd needs
 needs_disk left (Act outcome behind) needs = absurd needs
 
 needs_mark : (left : ℕ) (need : Need) → NeedsMark need → NeedsMark (raised left need)
@@ -291,11 +289,10 @@ needs_mark left (Turns (suc k)) needs = absurd needs
 needs_mark left (WordFor k now) needs = absurd needs
 needs_mark left (ReceiptNow k) needs = absurd needs
 needs_mark left (ReadingFor k from bytes) needs = absurd needs
-needs_mark left Call needs = absurd needs
-needs_mark left (CallReading wait flags) needs = absurd needs
-needs_mark left (CallWord wait flags now) needs = absurd needs
-needs_mark left (Round k) needs = absurd needs
-needs_mark left (RoundReading k from bytes) needs = absurd needs
+needs_mark left (Calls rest) needs = absurd needs
+needs_mark left (CallWord call now rest) needs = absurd needs
+needs_mark left (Round k rest) needs = absurd needs
+needs_mark left (RoundReading k from bytes rest) needs = absurd needs
 needs_mark left (Act outcome behind) needs = absurd needs
 
 raised_receipt : (left : ℕ) (need : Need) → NeedsReceipt need → NeedsReceipt (raised left need)
@@ -305,11 +302,10 @@ raised_receipt left (Turns (suc k)) needs = absurd needs
 raised_receipt left (WordFor k now) needs = absurd needs
 raised_receipt left (ReceiptNow k) needs = tt
 raised_receipt left (ReadingFor k from bytes) needs = absurd needs
-raised_receipt left Call needs = absurd needs
-raised_receipt left (CallReading wait flags) needs = absurd needs
-raised_receipt left (CallWord wait flags now) needs = absurd needs
-raised_receipt left (Round k) needs = absurd needs
-raised_receipt left (RoundReading k from bytes) needs = absurd needs
+raised_receipt left (Calls rest) needs = absurd needs
+raised_receipt left (CallWord call now rest) needs = absurd needs
+raised_receipt left (Round k rest) needs = absurd needs
+raised_receipt left (RoundReading k from bytes rest) needs = absurd needs
 raised_receipt left (Act outcome behind) needs = absurd needs
 
 raised_calls : (left : ℕ) (need : Need) → IsInCalls need → IsInCalls (raised left need)
@@ -319,11 +315,10 @@ raised_calls left (Turns (suc k)) needs = absurd needs
 raised_calls left (WordFor k now) needs = absurd needs
 raised_calls left (ReceiptNow k) needs = absurd needs
 raised_calls left (ReadingFor k from bytes) needs = absurd needs
-raised_calls left Call needs = tt
-raised_calls left (CallReading wait flags) needs = absurd needs
-raised_calls left (CallWord wait flags now) needs = absurd needs
-raised_calls left (Round k) needs = tt
-raised_calls left (RoundReading k from bytes) needs = absurd needs
+raised_calls left (Calls rest) needs = tt
+raised_calls left (CallWord call now rest) needs = absurd needs
+raised_calls left (Round k rest) needs = tt
+raised_calls left (RoundReading k from bytes rest) needs = absurd needs
 raised_calls left (Act outcome behind) needs = absurd needs
 
 raised_between : (left : ℕ) (need : Need) → IsBetween need → IsBetween (raised left need)
@@ -333,11 +328,10 @@ raised_between left (Turns (suc k)) needs = tt
 raised_between left (WordFor k now) needs = absurd needs
 raised_between left (ReceiptNow k) needs = absurd needs
 raised_between left (ReadingFor k from bytes) needs = absurd needs
-raised_between left Call needs = tt
-raised_between left (CallReading wait flags) needs = absurd needs
-raised_between left (CallWord wait flags now) needs = absurd needs
-raised_between left (Round k) needs = tt
-raised_between left (RoundReading k from bytes) needs = absurd needs
+raised_between left (Calls rest) needs = tt
+raised_between left (CallWord call now rest) needs = absurd needs
+raised_between left (Round k rest) needs = tt
+raised_between left (RoundReading k from bytes rest) needs = absurd needs
 raised_between left (Act outcome behind) needs = absurd needs
 
 raised_behind : (left : ℕ) (need : Need) (event : Event) → IsBehind event need → IsBehind event (raised left need)
@@ -352,11 +346,10 @@ raised_does left (Turns k) event does = absurd does
 raised_does left (WordFor k now) event does = absurd does
 raised_does left (ReceiptNow k) event does = absurd does
 raised_does left (ReadingFor k from bytes) event does = absurd does
-raised_does left Call event does = absurd does
-raised_does left (CallReading wait flags) event does = absurd does
-raised_does left (CallWord wait flags now) event does = absurd does
-raised_does left (Round k) event does = absurd does
-raised_does left (RoundReading k from bytes) event does = absurd does
+raised_does left (Calls rest) event does = absurd does
+raised_does left (CallWord call now rest) event does = absurd does
+raised_does left (Round k rest) event does = absurd does
+raised_does left (RoundReading k from bytes rest) event does = absurd does
 raised_does left (Act outcome behind) event does = raised_behind left behind event does
 
 raised_ends : (left : ℕ) (why : Why) (deeds : List Deed) (ending : Ending) (taken : List Event) (need : Need) (a b : Faults) → all_done deeds ending ≡ map Take taken

@@ -26,7 +26,7 @@ const NO_DATA: u32 = 1;
 const TOO_BIG: u32 = 3;
 
 impl Running {
-    ghost use Rattle.std.specs.Prelude.{◌↔◌, ◌<◌, ℕ, List, Option, IfErr, IsErrOf, OnOk};
+    ghost use Rattle.std.specs.Prelude.{◌↔◌, ◌<◌, ℕ, [], List, Option, IfErr, IsErrOf, OnOk};
     ghost use Rattle.edge_seen.specs.Seen.{Seen};
     ghost use Rattle.slot_disk.specs.Calls.{LeavesOnly};
     ghost use Rattle.stamp_keep.specs.Keep.{KeepsMarks, KeepsUnused};
@@ -37,7 +37,7 @@ impl Running {
     ghost use Rattle.run_deeds.specs.Marks.{Covers, KeepsLoadable};
     ghost use Rattle.run_deeds.specs.Parts.{why_of};
     ghost use Rattle.run_deeds.specs.Rounds.{Answers, RoundAnswers};
-    ghost use Rattle.run_deeds.specs.Weaving.{CallReading, behind_request};
+    ghost use Rattle.run_deeds.specs.Weaving.{behind_request, one_call};
     ghost use Rattle.member_run.specs.Running.{CallsWhereDue, IsBegun, IsGoing, IsOfReceipt};
     ghost use Rattle.member_run.specs.Running.{IsPart, IsUsedUp, RisesWhereDue, SendsNone};
     ghost use Rattle.member_run.specs.Running.{greatest_of, kept_of, member_of, totals_of};
@@ -114,7 +114,7 @@ impl Running {
         ensures borrows { SameBorrows devices.old devices.new }
         ensures part { let seen = ⟦<Devices<'l, 'c, 'd, 'e, 'o, 'k, L, C, D, E, O> as Tells>⟧.seen in
             (others : Seen) (wait : ℕ)
-            → IsPart self.old self.new (CallReading wait flags) (behind_request wait)
+            → IsPart self.old self.new (one_call wait flags) (behind_request wait [])
             (seen others devices.old)
             (seen others devices.new)
             (why_of result) }

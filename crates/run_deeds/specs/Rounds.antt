@@ -13,7 +13,7 @@ use Rattle.time_machine.specs.Machine.{outcome_at}
 use Rattle.sntp_core.specs.declared.member.Member.{Member}
 use Rattle.run_deeds.specs.declared.life_end.LifeEnd.{LifeEnd}
 use Rattle.run_deeds.specs.declared.life_end.Why.{Why}
-use Rattle.run_deeds.specs.Weaving.{Calls, Round, SyncCall}
+use Rattle.run_deeds.specs.Weaving.{Calls, Round, one_call}
 use Rattle.run_deeds.specs.Deeds.{Deed, Take, Print, along}
 use Rattle.run_deeds.specs.Parts.{Part, why_of}
 
@@ -47,11 +47,11 @@ result_of wait flags outcomes =
     if wait == 0 then 0 else if bit_and flags 2 == 0 then 0 else round_result outcomes
 
 -- a round and its result
-pub record RoundAnswers (conf : Conf) (left : List SyncCall) (history : History) (before now : Seen) (member : Member) (kept : ℕ) (old new : LifeEnd) (result : Result ℕ Why) : Type 0 where
-  pub part : Part conf (Round 16 left) (Calls left) history before now member kept kept old new (why_of result)
+pub record RoundAnswers (conf : Conf) (history : History) (before now : Seen) (member : Member) (kept : ℕ) (old new : LifeEnd) (result : Result ℕ Why) : Type 0 where
+  pub part : Part conf (Round 16 []) (Calls []) history before now member kept kept old new (why_of result)
   pub answer : IfOk result (λ n. n ≡ round_result (along (outcomes_in conf) history part.runs.deeds))
 
--- a call's part of a run, behind which these calls are left, and its result
-pub record Answers (conf : Conf) (call : SyncCall) (left : List SyncCall) (history : History) (before now : Seen) (member : Member) (kept kept' : ℕ) (old new : LifeEnd) (result : Result ℕ Why) : Type 0 where
-  pub part : Part conf (Calls (call ∷ left)) (Calls left) history before now member kept kept' old new (why_of result)
-  pub answer : IfOk result (λ n. n ≡ result_of call.wait call.flags (along (outcomes_in conf) history part.runs.deeds))
+-- a call's part of a run, and its result
+pub record Answers (conf : Conf) (wait flags : ℕ) (history : History) (before now : Seen) (member : Member) (kept kept' : ℕ) (old new : LifeEnd) (result : Result ℕ Why) : Type 0 where
+  pub part : Part conf (one_call wait flags) (Calls []) history before now member kept kept' old new (why_of result)
+  pub answer : IfOk result (λ n. n ≡ result_of wait flags (along (outcomes_in conf) history part.runs.deeds))

@@ -101,6 +101,10 @@ pub data Need : Type 0 where
   -- what an event led to, its send or its correction; what is needed behind it
   Act : (outcome : Outcome) (behind : Need) → Need
 
+-- one call with this wait and these flags, and none behind it
+abbrev pub one_call : (wait flags : ℕ) → Need
+one_call wait flags = Calls (record { wait = wait; flags = flags } ∷ [])
+
 -- a round may take so many receipts still, or is over
 abbrev pub round_of : ℕ → List SyncCall → Need
 round_of zero left = Calls left

@@ -1,7 +1,7 @@
 use Rattle.edge_seen.specs.Seen.{Seen, silent}
-use Rattle.std.proofs.Common.{◌≡◌, Err, ap, refl}
+use Rattle.std.proofs.Common.{◌≡◌, [], Err, ap, refl}
 use Rattle.run_deeds.specs.declared.life_end.Why.TheVariants.{BadVersion, DiskFault}
-use Rattle.run_deeds.specs.Weaving.{Call, Turns}
+use Rattle.run_deeds.specs.Weaving.{Calls, Turns}
 use Rattle.member_run.specs.Running.{totals_of}
 use Rattle.member_run.proofs.Writes.{closes_version}
 use Rattle.member_run.proofs.Living.{lives_closed, lives_never, lives_stopped}
@@ -17,7 +17,7 @@ returns-in-Err-clause-lives g c =
     rw c.nothing.ensures
     (λ others.
     lives_never c.args.conf c.args.turns (g.D.Disk.told c.args.disk.now) (g.D.Disk.told c.start.new.disk) _ _ c.in-Err.why e.never
-    (e.begins (asked others) Call)
+    (e.begins (asked others) (Calls []))
     (λ is. e.version (ap Err is)) (λ is. e.refused (ap Err is))
     (λ version fault. e.loadable (λ is. version (let same : c.in-Err.why ≡ BadVersion = cc in same)) (λ is. fault (let same : c.in-Err.why ≡ DiskFault = cc in same)))
     e.calls e.least e.still_loads e.any_moment e.unused

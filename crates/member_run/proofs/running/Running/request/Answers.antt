@@ -1,10 +1,10 @@
-use Rattle.std.proofs.Common.{refl, ap, rules, w64}
+use Rattle.std.proofs.Common.{[], refl, ap, rules, w64}
 use Rattle.std.proofs.lemmas.Int.{to_z-of_z}
 use Rattle.std.proofs.lemmas.Result.{err_from_is_err_and}
 use Rattle.capture_fmt.specs.declared.event.Event.TheVariants.{Resync}
 use Rattle.stamp_keep.specs.Keep.{kept_mark}
 use Rattle.sntp_core.specs.Standing.{conf_of, words_of}
-use Rattle.run_deeds.specs.Weaving.{CallReading, CallWord, behind_request, call_draws, call_reads, none}
+use Rattle.run_deeds.specs.Weaving.{CallWord, behind_request, call_draws, call_reads, none, one_call}
 use Rattle.member_run.specs.Running.{member_of, totals_of}
 use Rattle.member_run.proofs.Counts.{asks_follow}
 use Rattle.member_run.proofs.Following.{covers_cut, covers_going, covers_still, cut_keeper, going_on}
@@ -23,7 +23,7 @@ returns-in_err-ensure_count-clause-part g c =
     let e = c.in_err-ensure_count.ensures in
     rw (p.1, p.2, e.err)
     (λ others wait history stands.
-    no_count others _ (CallReading wait c.args.flags) (behind_request wait) history c.args.self.now.member _ _ _ _ _ _ _ _ _ _ _ _ _ _ _ _ refl stands tt tt e.cause (λ is. e.never_version (cc is)))
+    no_count others _ (one_call wait c.args.flags) (behind_request wait []) history c.args.self.now.member _ _ _ _ _ _ _ _ _ _ _ _ _ _ _ _ refl stands tt tt e.cause (λ is. e.never_version (cc is)))
 
 pub returns-in_err-now-clause-part : goal.returns-in_err-now-clause-part
 returns-in_err-now-clause-part g c =
@@ -33,7 +33,7 @@ returns-in_err-now-clause-part g c =
     let gives = c.in_err-now.ensures.gives in
     rw (p.1, p.2, member, totals)
     (λ others wait history stands.
-    no_reading others _ (CallReading wait c.args.flags) (behind_request wait) history c.args.self.now.member _ _ _ _ _ _ _ _ _ _ _ _ _ _ _ _ _ _ refl stands tt gives.0 gives.1 gives.2 c.in_ok-ensure_count.ensures.cause)
+    no_reading others _ (one_call wait c.args.flags) (behind_request wait []) history c.args.self.now.member _ _ _ _ _ _ _ _ _ _ _ _ _ _ _ _ _ _ refl stands tt gives.0 gives.1 gives.2 c.in_ok-ensure_count.ensures.cause)
 
 pub returns-in_err-word-clause-part : goal.returns-in_err-word-clause-part
 returns-in_err-word-clause-part g c =
@@ -44,7 +44,7 @@ returns-in_err-word-clause-part g c =
     let drew = c.in_err-word.ensures.gives in
     rw (p.1, p.2, member, totals)
     (λ others wait history stands.
-    no_word others _ (CallReading wait c.args.flags) (CallWord wait c.args.flags c.in_ok-now.now) (behind_request wait) history c.args.self.now.member _ _ _ _ _ _ _ _ _ _ _ _ _ _ _ _ _ _ _ _ c.in_ok-now.now refl stands tt (call_reads none)
+    no_word others _ (one_call wait c.args.flags) (CallWord (record { wait = wait; flags = c.args.flags }) c.in_ok-now.now []) (behind_request wait []) history c.args.self.now.member _ _ _ _ _ _ _ _ _ _ _ _ _ _ _ _ _ _ _ _ c.in_ok-now.now refl stands tt (call_reads none)
     drew.0 read.0 read.1 drew.1 drew.2 c.in_ok-ensure_count.ensures.cause)
 
 pub returns-in_err-take-clause-part : goal.returns-in_err-take-clause-part
@@ -59,9 +59,9 @@ returns-in_err-take-clause-part g c =
     rw (p.1, p.2, kept)
     (λ others wait history stands.
     let takes = rw (time, member, totals) at c.in_err-take.ensures.takes others history stands in
-    takes_drawn others _ (CallReading wait c.args.flags) (behind_request wait) history (Resync c.in_ok-now.now c.in_ok-word.word c.args.flags) c.take.new.self.member _ _ _ _ _ _ _ _ _ _ _ _ _ _ _ _ _ _ _ _ _ _ c.in_ok-now.now c.in_ok-word.word
+    takes_drawn others _ (one_call wait c.args.flags) (behind_request wait []) history (Resync c.in_ok-now.now c.in_ok-word.word c.args.flags) c.take.new.self.member _ _ _ _ _ _ _ _ _ _ _ _ _ _ _ _ _ _ _ _ _ _ c.in_ok-now.now c.in_ok-word.word
     read.0 read.1 drew.1 drew.2 c.in_ok-ensure_count.ensures.cause takes (λ cs ls need s. call_reads (call_draws s))
-    (call_behind c.in_ok-now.now c.in_ok-word.word c.args.flags wait)
+    (call_behind c.in_ok-now.now c.in_ok-word.word c.args.flags wait [])
     (asks_reserved c.args.self.now.member history (Resync c.in_ok-now.now c.in_ok-word.word c.args.flags) _ _ _ refl stands c.requires.going.begun.last c.in_ok-ensure_count.ensures.reserves))
 
 pub returns-clause-part : goal.returns-clause-part
@@ -75,9 +75,9 @@ returns-clause-part g c =
     rw kept
     (λ others wait history stands.
     let takes = rw (time, member, totals) at c.in_ok-take.ensures.takes others history stands in
-    takes_drawn others _ (CallReading wait c.args.flags) (behind_request wait) history (Resync c.in_ok-now.now c.in_ok-word.word c.args.flags) c.take.new.self.member _ _ _ _ _ _ _ _ _ _ _ _ _ _ _ _ _ _ _ _ _ _ c.in_ok-now.now c.in_ok-word.word
+    takes_drawn others _ (one_call wait c.args.flags) (behind_request wait []) history (Resync c.in_ok-now.now c.in_ok-word.word c.args.flags) c.take.new.self.member _ _ _ _ _ _ _ _ _ _ _ _ _ _ _ _ _ _ _ _ _ _ c.in_ok-now.now c.in_ok-word.word
     read.0 read.1 drew.1 drew.2 c.in_ok-ensure_count.ensures.cause takes (λ cs ls need s. call_reads (call_draws s))
-    (call_behind c.in_ok-now.now c.in_ok-word.word c.args.flags wait)
+    (call_behind c.in_ok-now.now c.in_ok-word.word c.args.flags wait [])
     (asks_reserved c.args.self.now.member history (Resync c.in_ok-now.now c.in_ok-word.word c.args.flags) _ _ _ refl stands c.requires.going.begun.last c.in_ok-ensure_count.ensures.reserves))
 
 pub returns-clause-going : goal.returns-clause-going

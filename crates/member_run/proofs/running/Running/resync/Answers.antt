@@ -1,4 +1,4 @@
-use Rattle.std.proofs.Common.{ap, sym, ◌∙◌, Err}
+use Rattle.std.proofs.Common.{[], ap, sym, ◌∙◌, Err}
 use Rattle.std.proofs.lemmas.Result.{err_from_is_err_and}
 use Rattle.run_deeds.specs.Weaving.{behind_request}
 use Rattle.member_run.proofs.Calling.{answers_cut, answers_fault, answers_now, answers_plain, answers_result}
@@ -12,7 +12,7 @@ returns-in_err-request-clause-answers g c =
     let b = e.borrows in
     rw (p.1, p.2, o.link-1-own.given.1 (sym b.0), o.clock-1-own.given.1 (sym b.1), o.disk-1-own.given.1 (sym b.2), o.entropy-1-own.given.1 (sym b.3), o.out-1-own.given.1 (sym b.4), o.capture-1-own.given.1 (sym b.5))
     (λ others history stands.
-    answers_fault _ c.args.wait c.args.flags (behind_request c.args.wait) history _ _ _ _ _ _ _ c.in_err-request.field-0.0 (λ is. e.never.0 (ap Err is)) (e.part others c.args.wait history stands))
+    answers_fault _ c.args.wait c.args.flags (behind_request c.args.wait []) history _ _ _ _ _ _ _ c.in_err-request.field-0.0 (λ is. e.never.0 (ap Err is)) (e.part others c.args.wait history stands))
 
 pub returns-then-wait-eq0-clause-answers : goal.returns-then-wait-eq0-clause-answers
 returns-then-wait-eq0-clause-answers g c =
