@@ -41,7 +41,7 @@ impl From<CallFault> for AskFault {
 /// Opens one session, binds to the time service (MS-W32T), and makes the call.
 ///
 /// `Refused`: no session came, the bind or the call was refused, or the reply to one of them is wrong or not whole.
-/// `ReadFault` and `WriteFault`: the request for the session, a read or a write failed, and no later call was made on the wire.
+/// `ReadFault` and `WriteFault`: the request for the session, a read or a write failed, and that ended the call.
 pub fn ask<W: Wire>(call: Call, wire: &mut W) -> Result<Given, AskFault>
     // One session is asked for. Its bytes decide the answer, how many of them are taken, and what is written.
     ensures asks { AsksOnce call result (W.told wire.old) (W.told wire.new) }
