@@ -1,5 +1,7 @@
 -- The events of a run whose requests are asked for, from the calls and what its devices gave.
-use Rattle.std.specs.Prelude.{ℕ, zero, suc, ◌==◌, if◌then◌else◌, ℤ, List, [], ◌∷◌, is_some}
+use Rattle.std.specs.Prelude.{◌≡◌, ℕ, zero, suc, ◌==◌, if◌then◌else◌, ℤ, List, [], ◌∷◌, is_some}
+use Rattle.edge_traits.specs.Clock.{ClockCall, readings_among}
+use Rattle.edge_traits.specs.Link.{LinkCall, receipts_among}
 use Rattle.edge_traits.specs.declared.link.Receipt.{Receipt}
 use Rattle.edge_traits.specs.declared.link.Receipt.TheVariants.{Got, Quiet, Failed}
 use Rattle.capture_fmt.specs.declared.event.Event.{Event}
@@ -8,7 +10,7 @@ use Rattle.time_machine.specs.declared.conf.Conf.{Conf}
 use Rattle.time_machine.specs.Events.{History}
 use Rattle.time_machine.specs.Told.{offset_moved}
 use Rattle.time_machine.specs.Machine.{outcome_at}
-use Rattle.run_deeds.specs.Weaving.{Stood, SyncCall}
+use Rattle.run_deeds.specs.Weaving.{Calls, Need, Start, Stood, SyncCall, Weaves}
 
 -- A round that may take so many receipts still: an Arrive with the next reading for each that is a datagram. An accepted
 -- arrival, a quiet receipt or the last one ends it, and `next` comes after it, with the readings and receipts that are
@@ -41,3 +43,10 @@ abbrev pub service_weave : Conf → Stood → List SyncCall → List ℤ → Lis
 service_weave conf stood calls [] words receipts = []
 service_weave conf stood calls (now ∷ readings) words receipts =
     Life now stood.mark ∷ call_events conf calls (Life now stood.mark ∷ []) readings words receipts
+
+-- What is woven from a Life and these calls on is `service_weave` of what was given, whichever call ends it.
+abbrev pub LawOfServices : Type 0
+LawOfServices =
+    (conf : Conf) (stood : Stood) (calls : List SyncCall) (cs : List ClockCall) (ws : List ℕ) (ls : List LinkCall) (es : List Event) (need : Need)
+    → Weaves conf (Start stood (Calls calls)) [] cs ws ls es need
+    → es ≡ service_weave conf stood calls (readings_among cs) ws (receipts_among ls)

@@ -1,7 +1,7 @@
 -- The events of a run, from what its devices gave.
 use Rattle.std.specs.Prelude.{◌≡◌, ℕ, zero, suc, ◌==◌, if◌then◌else◌, ℤ, List, [], ◌∷◌, ◌++◌, is_some, map}
-use Rattle.edge_traits.specs.Clock.{ClockCall, Correct, Read}
-use Rattle.edge_traits.specs.Link.{LinkCall, Receive, Send}
+use Rattle.edge_traits.specs.Clock.{ClockCall, Correct, Read, readings_among}
+use Rattle.edge_traits.specs.Link.{LinkCall, Receive, Send, receipts_among}
 use Rattle.edge_traits.specs.declared.datagram.Addr.{Addr}
 use Rattle.edge_traits.specs.declared.link.Receipt.{Receipt}
 use Rattle.edge_traits.specs.declared.link.Receipt.TheVariants.{Got, Quiet, Failed}
@@ -165,3 +165,9 @@ pub data Weaves (conf : Conf) : Need → History → List ClockCall → List ℕ
   round_arrives : {receipts : ℕ} {left : List SyncCall} {from : Addr} {bytes : List ℕ} {now : ℤ} {need : Need} {history : History} {cs : List ClockCall} {ws : List ℕ} {ls : List LinkCall} {es : List Event}
       → Weaves conf (Act (outcome_at conf history (Arrive now from bytes)) (behind_arrival receipts (outcome_at conf history (Arrive now from bytes)) left)) (Arrive now from bytes ∷ history) cs ws ls es need
       → Weaves conf (RoundReading receipts from bytes left) history (Read now ∷ cs) ws ls (Arrive now from bytes ∷ es) need
+
+-- What is woven from a Life and so many turns on is `weave` of what was given: of the readings, the words and the receipts.
+abbrev pub LawOfTurns : ℕ → Type 0
+LawOfTurns turns =
+    (conf : Conf) (stood : Stood) (cs : List ClockCall) (ws : List ℕ) (ls : List LinkCall) (es : List Event) (need : Need)
+    → Weaves conf (Start stood (Turns turns)) [] cs ws ls es need → es ≡ weave stood (readings_among cs) ws (receipts_among ls)
