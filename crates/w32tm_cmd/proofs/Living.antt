@@ -54,15 +54,16 @@ disk_alone old new input link clock entropy out capture wire = λ i. record {
 abbrev pub lived : (turns : ℕ) (entry exit : DiskTold) (before now : Seen) (is : Why) (settings : Settings) (conf : Conf) (end : LifeEnd) → Configures before now settings → IsConfOf settings conf
     → ((others : Seen) → Lives conf turns entry exit (living others before.link before.clock before.words before.capture before.written before.link_faults (faults_of before))
     (living others now.link now.clock now.words now.capture now.written now.link_faults (faults_of now)) end)
-    → end.why ≡ is → now.left ≡ before.left → now.read_faults ≡ before.read_faults → LivesUntil turns entry exit before now is
-lived turns entry exit before now is settings conf end configured is_conf lives ended input no_read_fault = record {
+    → end.why ≡ is → now.left ≡ before.left → now.read_faults ≡ before.read_faults
+    → living (after_settings before now) now.link now.clock now.words now.capture now.written now.link_faults (faults_of now) ≡ now
+    → LivesUntil turns entry exit before now is
+lived turns entry exit before now is settings conf end configured is_conf lives ended input no_read_fault others = record {
   settings = settings;
   conf = conf;
   end = end;
   configured = configured;
   is_conf = is_conf;
-  lives = subst (λ (s : Seen). Lives conf turns entry exit (after_settings before now) s end)
-      (λ i. record now { left = (sym input) i; read_faults = (sym no_read_fault) i }) (lives (after_settings before now));
+  lives = subst (λ (s : Seen). Lives conf turns entry exit (after_settings before now) s end) others (lives (after_settings before now));
   ended = ended;
   input = input;
   no_read_fault = no_read_fault;

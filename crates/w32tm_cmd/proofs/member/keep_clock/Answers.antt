@@ -29,7 +29,7 @@ returns-in-Err-NoPartner-clause-member g c =
 -- each end of the run
 pub returns-in-Done-clause-member : goal.returns-in-Done-clause-member
 returns-in-Done-clause-member g c = judged c.args.turns _ _ _ _ why.Done
-    (lived c.args.turns _ _ _ _ why.Done c.in-Ok.settings c.in-Ok-conf_of.conf c.live-end.result c.in-Ok.ensures.reads c.in-Ok-conf_of.ensures.answer c.live-end.ensures.lives c.in-Done.is refl refl)
+    (lived c.args.turns _ _ _ _ why.Done c.in-Ok.settings c.in-Ok-conf_of.conf c.live-end.result c.in-Ok.ensures.reads c.in-Ok-conf_of.ensures.answer c.live-end.ensures.lives c.in-Done.is refl refl refl)
     (record {
       some = λ none. let wrong = c.in-Ok-conf_of.ensures.no_partner.1 none in cc wrong;
       complete = c.live-end.ensures.complete;
@@ -37,7 +37,7 @@ returns-in-Done-clause-member g c = judged c.args.turns _ _ _ _ why.Done
 
 pub returns-in-DiskFault-clause-member : goal.returns-in-DiskFault-clause-member
 returns-in-DiskFault-clause-member g c = judged c.args.turns _ _ _ _ why.DiskFault
-    (lived c.args.turns _ _ _ _ why.DiskFault c.in-Ok.settings c.in-Ok-conf_of.conf c.live-end.result c.in-Ok.ensures.reads c.in-Ok-conf_of.ensures.answer c.live-end.ensures.lives c.in-DiskFault.is refl refl)
+    (lived c.args.turns _ _ _ _ why.DiskFault c.in-Ok.settings c.in-Ok-conf_of.conf c.live-end.result c.in-Ok.ensures.reads c.in-Ok-conf_of.ensures.answer c.live-end.ensures.lives c.in-DiskFault.is refl refl refl)
     (record {
       some = λ none. let wrong = c.in-Ok-conf_of.ensures.no_partner.1 none in cc wrong;
       complete = c.live-end.ensures.complete;
@@ -45,7 +45,7 @@ returns-in-DiskFault-clause-member g c = judged c.args.turns _ _ _ _ why.DiskFau
 
 pub returns-in-BadVersion-clause-member : goal.returns-in-BadVersion-clause-member
 returns-in-BadVersion-clause-member g c = judged c.args.turns _ _ _ _ why.BadVersion
-    (lived c.args.turns _ _ _ _ why.BadVersion c.in-Ok.settings c.in-Ok-conf_of.conf c.live-end.result c.in-Ok.ensures.reads c.in-Ok-conf_of.ensures.answer c.live-end.ensures.lives c.in-BadVersion.is refl refl)
+    (lived c.args.turns _ _ _ _ why.BadVersion c.in-Ok.settings c.in-Ok-conf_of.conf c.live-end.result c.in-Ok.ensures.reads c.in-Ok-conf_of.ensures.answer c.live-end.ensures.lives c.in-BadVersion.is refl refl refl)
     (record {
       some = λ none. let wrong = c.in-Ok-conf_of.ensures.no_partner.1 none in cc wrong;
       complete = c.live-end.ensures.complete;
@@ -53,7 +53,7 @@ returns-in-BadVersion-clause-member g c = judged c.args.turns _ _ _ _ why.BadVer
 
 pub returns-in-StampsSpent-clause-member : goal.returns-in-StampsSpent-clause-member
 returns-in-StampsSpent-clause-member g c = judged c.args.turns _ _ _ _ why.StampsSpent
-    (lived c.args.turns _ _ _ _ why.StampsSpent c.in-Ok.settings c.in-Ok-conf_of.conf c.live-end.result c.in-Ok.ensures.reads c.in-Ok-conf_of.ensures.answer c.live-end.ensures.lives c.in-StampsSpent.is refl refl)
+    (lived c.args.turns _ _ _ _ why.StampsSpent c.in-Ok.settings c.in-Ok-conf_of.conf c.live-end.result c.in-Ok.ensures.reads c.in-Ok-conf_of.ensures.answer c.live-end.ensures.lives c.in-StampsSpent.is refl refl refl)
     (record {
       some = λ none. let wrong = c.in-Ok-conf_of.ensures.no_partner.1 none in cc wrong;
       complete = c.live-end.ensures.complete;
@@ -61,7 +61,7 @@ returns-in-StampsSpent-clause-member g c = judged c.args.turns _ _ _ _ why.Stamp
 
 pub returns-in-ClockFault-clause-member : goal.returns-in-ClockFault-clause-member
 returns-in-ClockFault-clause-member g c = judged c.args.turns _ _ _ _ why.ClockFault
-    (lived c.args.turns _ _ _ _ why.ClockFault c.in-Ok.settings c.in-Ok-conf_of.conf c.live-end.result c.in-Ok.ensures.reads c.in-Ok-conf_of.ensures.answer c.live-end.ensures.lives c.in-ClockFault.is refl refl)
+    (lived c.args.turns _ _ _ _ why.ClockFault c.in-Ok.settings c.in-Ok-conf_of.conf c.live-end.result c.in-Ok.ensures.reads c.in-Ok-conf_of.ensures.answer c.live-end.ensures.lives c.in-ClockFault.is refl refl refl)
     (record {
       some = λ none. let wrong = c.in-Ok-conf_of.ensures.no_partner.1 none in cc wrong;
       complete = c.live-end.ensures.complete;
@@ -69,7 +69,7 @@ returns-in-ClockFault-clause-member g c = judged c.args.turns _ _ _ _ why.ClockF
 
 pub returns-in-EntropyFault-clause-member : goal.returns-in-EntropyFault-clause-member
 returns-in-EntropyFault-clause-member g c = judged c.args.turns _ _ _ _ why.EntropyFault
-    (lived c.args.turns _ _ _ _ why.EntropyFault c.in-Ok.settings c.in-Ok-conf_of.conf c.live-end.result c.in-Ok.ensures.reads c.in-Ok-conf_of.ensures.answer c.live-end.ensures.lives c.in-EntropyFault.is refl refl)
+    (lived c.args.turns _ _ _ _ why.EntropyFault c.in-Ok.settings c.in-Ok-conf_of.conf c.live-end.result c.in-Ok.ensures.reads c.in-Ok-conf_of.ensures.answer c.live-end.ensures.lives c.in-EntropyFault.is refl refl refl)
     (record {
       some = λ none. let wrong = c.in-Ok-conf_of.ensures.no_partner.1 none in cc wrong;
       complete = c.live-end.ensures.complete;
@@ -77,7 +77,7 @@ returns-in-EntropyFault-clause-member g c = judged c.args.turns _ _ _ _ why.Entr
 
 pub returns-clause-member : goal.returns-clause-member
 returns-clause-member g c = judged c.args.turns _ _ _ _ why.SinkFault
-    (lived c.args.turns _ _ _ _ why.SinkFault c.in-Ok.settings c.in-Ok-conf_of.conf c.live-end.result c.in-Ok.ensures.reads c.in-Ok-conf_of.ensures.answer c.live-end.ensures.lives c.in-SinkFault.is refl refl)
+    (lived c.args.turns _ _ _ _ why.SinkFault c.in-Ok.settings c.in-Ok-conf_of.conf c.live-end.result c.in-Ok.ensures.reads c.in-Ok-conf_of.ensures.answer c.live-end.ensures.lives c.in-SinkFault.is refl refl refl)
     (record {
       some = λ none. let wrong = c.in-Ok-conf_of.ensures.no_partner.1 none in cc wrong;
       complete = c.live-end.ensures.complete;
@@ -92,20 +92,20 @@ returns-in-BadVersion-clause-touches g c =
 -- each fault has its cause
 pub returns-in-DiskFault-clause-causes : goal.returns-in-DiskFault-clause-causes
 returns-in-DiskFault-clause-causes g c = causes c.args.turns _ _ _ _ why.DiskFault
-    (lived c.args.turns _ _ _ _ why.DiskFault c.in-Ok.settings c.in-Ok-conf_of.conf c.live-end.result c.in-Ok.ensures.reads c.in-Ok-conf_of.ensures.answer c.live-end.ensures.lives c.in-DiskFault.is refl refl)
+    (lived c.args.turns _ _ _ _ why.DiskFault c.in-Ok.settings c.in-Ok-conf_of.conf c.live-end.result c.in-Ok.ensures.reads c.in-Ok-conf_of.ensures.answer c.live-end.ensures.lives c.in-DiskFault.is refl refl refl)
     (search rules)
 
 pub returns-in-ClockFault-clause-causes : goal.returns-in-ClockFault-clause-causes
 returns-in-ClockFault-clause-causes g c = causes c.args.turns _ _ _ _ why.ClockFault
-    (lived c.args.turns _ _ _ _ why.ClockFault c.in-Ok.settings c.in-Ok-conf_of.conf c.live-end.result c.in-Ok.ensures.reads c.in-Ok-conf_of.ensures.answer c.live-end.ensures.lives c.in-ClockFault.is refl refl)
+    (lived c.args.turns _ _ _ _ why.ClockFault c.in-Ok.settings c.in-Ok-conf_of.conf c.live-end.result c.in-Ok.ensures.reads c.in-Ok-conf_of.ensures.answer c.live-end.ensures.lives c.in-ClockFault.is refl refl refl)
     (search rules)
 
 pub returns-in-EntropyFault-clause-causes : goal.returns-in-EntropyFault-clause-causes
 returns-in-EntropyFault-clause-causes g c = causes c.args.turns _ _ _ _ why.EntropyFault
-    (lived c.args.turns _ _ _ _ why.EntropyFault c.in-Ok.settings c.in-Ok-conf_of.conf c.live-end.result c.in-Ok.ensures.reads c.in-Ok-conf_of.ensures.answer c.live-end.ensures.lives c.in-EntropyFault.is refl refl)
+    (lived c.args.turns _ _ _ _ why.EntropyFault c.in-Ok.settings c.in-Ok-conf_of.conf c.live-end.result c.in-Ok.ensures.reads c.in-Ok-conf_of.ensures.answer c.live-end.ensures.lives c.in-EntropyFault.is refl refl refl)
     (search rules)
 
 pub returns-clause-causes : goal.returns-clause-causes
 returns-clause-causes g c = causes c.args.turns _ _ _ _ why.SinkFault
-    (lived c.args.turns _ _ _ _ why.SinkFault c.in-Ok.settings c.in-Ok-conf_of.conf c.live-end.result c.in-Ok.ensures.reads c.in-Ok-conf_of.ensures.answer c.live-end.ensures.lives c.in-SinkFault.is refl refl)
+    (lived c.args.turns _ _ _ _ why.SinkFault c.in-Ok.settings c.in-Ok-conf_of.conf c.live-end.result c.in-Ok.ensures.reads c.in-Ok-conf_of.ensures.answer c.live-end.ensures.lives c.in-SinkFault.is refl refl refl)
     (search rules)
