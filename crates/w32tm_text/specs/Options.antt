@@ -9,7 +9,7 @@ use Rattle.w32tm_text.specs.declared.options.OptionName.TheVariants.{Config, Kee
 use Rattle.w32tm_text.specs.declared.options.Rule.{Rule}
 use Rattle.w32tm_text.specs.declared.options.Rule.TheVariants.{Required, Allowed, Refused}
 use Rattle.w32tm_text.specs.declared.words.Action.{Action}
-use Rattle.w32tm_text.specs.declared.words.Action.TheVariants.{Dc, Member, Monitor, Replay, Resync, QuerySource, QueryBits}
+use Rattle.w32tm_text.specs.declared.words.Action.TheVariants.{Dc, Member, Monitor, Replay, Simulate, Resync, QuerySource, QueryBits}
 use Rattle.w32tm_text.specs.declared.words.Command.{Command}
 
 -- how the words that give an option begin
@@ -48,6 +48,7 @@ rule_of Monitor Config = Required
 rule_of Monitor Port = Allowed
 rule_of Replay Config = Required
 rule_of Replay Capture = Allowed
+rule_of (Simulate seed operations) Capture = Allowed
 rule_of (Resync wait rediscover) Computer = Allowed
 rule_of (Resync false rediscover) NoWait = Required
 rule_of (Resync wait true) Rediscover = Required

@@ -210,6 +210,10 @@ impl Action {
                 OptionName::Capture => Rule::Allowed,
                 _ => Rule::Refused,
             },
+            Action::Simulate(_, _) => match name {
+                OptionName::Capture => Rule::Allowed,
+                _ => Rule::Refused,
+            },
             Action::Resync { wait, rediscover } => match name {
                 OptionName::Computer => Rule::Allowed,
                 OptionName::NoWait if !*wait => Rule::Required,

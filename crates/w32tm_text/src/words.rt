@@ -5,7 +5,7 @@ ghost use Rattle.key_book.specs.declared.account.Account.{Account};
 ghost use Rattle.w32tm_text.specs.declared.words.Action.{Action};
 ghost use Rattle.w32tm_text.specs.declared.words.Command.{Command};
 ghost use Rattle.w32tm_text.specs.Given.{SpellsFlags};
-ghost use Rattle.w32tm_text.specs.Words.{SpellsAccount, SpellsAction, SpellsCommand, SpellsDatagram, SpellsKeys, texts};
+ghost use Rattle.w32tm_text.specs.Words.{SpellsAccount, SpellsAction, SpellsCommand, SpellsDatagram, SpellsKeys, SpellsScript, texts};
 
 use crate::options::{OptionName, is_given, read_options};
 use edge_traits::{Addr, DATAGRAM_LEN, Datagram};
@@ -27,6 +27,9 @@ const QUERY: &[u8] = b"/query";
 /// The most turns of a run.
 const MOST_TURNS: u32 = 1_000_000;
 
+/// The most operations of a simulation.
+const MOST_OPERATIONS: u32 = 100_000;
+
 /// What is to be done.
 #[derive(Drop)]
 pub enum Action {
@@ -42,6 +45,9 @@ pub enum Action {
     Monitor,
     /// `/replay`: print what a member does with the events of a capture.
     Replay,
+    /// `/simulate:SEED:N`: run a member and a controller in a simulated world, by the script of this seed, for so many
+    /// operations.
+    Simulate(u32, u32),
     /// `/resync`: have a service ask for the time, and wait for its result or not. It may look for its partners anew
     /// first.
     Resync { wait: bool, rediscover: bool },
@@ -88,6 +94,8 @@ pub struct BadWords;
 ///   `/capture:PATH`, `/port:N` and `/clock:PATH`.
 /// - `/monitor`, which requires `/config:PATH` and allows `/port:N`.
 /// - `/replay`, which requires `/config:PATH` and allows `/capture:PATH`.
+/// - `/simulate:SEED:N`, where SEED is a decimal of at most 4,294,967,295 and N one of 1 to 100,000, both without sign or
+///   leading zero. It allows `/capture:PATH`.
 /// - `/resync`, which allows `/computer:TARGET`, `/nowait` and `/rediscover`.
 /// - `/query`, which requires `/source` or `/bits`, not both, and allows `/computer:TARGET`.
 ///
@@ -127,6 +135,10 @@ fn read_action(word: &[u8], words: &Vec<String>) -> Option<Action>
     }
     if let Some(turns) = behind(word, b"/member:") {
         return Some(Action::Member(read_count(turns, MOST_TURNS)?));
+    }
+    if let Some(script) = behind(word, b"/simulate:") {
+        let (seed, operations) = read_script(script)?;
+        return Some(Action::Simulate(seed, operations));
     }
     if word == MONITOR {
         Some(Action::Monitor)
@@ -184,6 +196,19 @@ fn read_count(text: &[u8], most: u32) -> Option<u32>
         Some(count) if count > 0 && count <= most => Some(count),
         _ => None,
     }
+}
+
+/// The seed and the number of operations of `SEED:N`.
+fn read_script(text: &[u8]) -> Option<(u32, u32)>
+    ensures read { IfSome result (λ s. SpellsScript s.0 s.1 text.now) }
+    ensures found { (seed operations : ℕ) → SpellsScript seed operations text.now
+        → result ≡ Some record { 0 = seed; 1 = operations } }
+{
+    let (seed, operations) = cut(text, b':')?;
+    Some((
+        read_decimal(seed)?,
+        read_count(operations, MOST_OPERATIONS)?,
+    ))
 }
 
 /// The account of `RID:KEY` or `RID:KEY:PREVIOUS`.
