@@ -1,6 +1,4 @@
 mod Confs
 mod Shown
 mod Spelling
-mod Flags
-pub mod Givens
-mod Targets
+pub mod Taking

@@ -1,4 +1,3 @@
-pub mod Calls
 pub mod Dc
 pub mod Given
 pub mod Options

@@ -1,11 +1,11 @@
 -- The grammar of the words of the command line, as a relation between a command and its spelling.
-use Rattle.std.specs.Prelude.{◌≡◌, ◌<◌, ◌≤◌, ◌^◌, ℕ, Bool, List, ◌∷◌, ◌++◌, length, map, codes, decimal, Option, Some, None, Ok, String, string_bytes}
+use Rattle.std.specs.Prelude.{◌≡◌, ◌<◌, ◌≤◌, ◌^◌, ℕ, List, ◌∷◌, ◌++◌, length, map, codes, decimal, Option, Some, None, Ok, String, string_bytes}
 use Rattle.std.specs.declared.alloc.Global.{Global}
 use Rattle.hex.specs.Hex.{decode_of}
 use Rattle.key_book.specs.declared.account.Account.{Account}
 use Rattle.key_book.specs.AccountText.{SpellsKey}
 use Rattle.w32tm_text.specs.declared.words.Action.{Action}
-use Rattle.w32tm_text.specs.declared.words.Action.TheVariants.{Sign, Show, Dc, Member, Monitor, Replay, Simulate, Resync, QuerySource, QueryBits}
+use Rattle.w32tm_text.specs.declared.words.Action.TheVariants.{Sign, Show, Dc, Member, Monitor, Replay, Simulate}
 use Rattle.w32tm_text.specs.declared.words.Command.{Command}
 use Rattle.w32tm_text.specs.Options.{SpellOptions}
 
@@ -68,7 +68,7 @@ pub record SpellsSimulate (seed operations : ℕ) (word : List ℕ) : Type 0 whe
   pub written : word ≡ codes "/simulate:" ++ text
   pub spelled : SpellsScript seed operations text
 
--- The first word says what is to be done. Where commands have one first word, they differ in what they require.
+-- the first word says what is to be done
 abbrev pub SpellsAction : Action → List ℕ → Type 0
 SpellsAction (Sign account) word = SpellsSign account word
 SpellsAction (Show bytes) word = SpellsShow bytes word
@@ -77,9 +77,6 @@ SpellsAction (Member turns) word = SpellsTurns (codes "/member:") turns word
 SpellsAction Monitor word = word ≡ codes "/monitor"
 SpellsAction Replay word = word ≡ codes "/replay"
 SpellsAction (Simulate seed operations) word = SpellsSimulate seed operations word
-SpellsAction (Resync wait rediscover) word = word ≡ codes "/resync"
-SpellsAction QuerySource word = word ≡ codes "/query"
-SpellsAction QueryBits word = word ≡ codes "/query"
 
 -- the words are those of the command: the first says what is to be done, and the options stand behind it
 pub record SpellsCommand (c : Command) (words : List (List ℕ)) : Type 0 where
@@ -122,18 +119,6 @@ IsReplay words = IsCommand Replay words
 -- the words spell `/simulate` with this seed, for so many operations
 abbrev pub IsSimulate : ℕ → ℕ → List (List ℕ) → Type 0
 IsSimulate seed operations words = IsCommand (Simulate seed operations) words
-
--- the words spell `/resync`, with a wait for its result or not, and with a rediscovery or not
-abbrev pub IsResync : Bool → Bool → List (List ℕ) → Type 0
-IsResync wait rediscover words = IsCommand (Resync wait rediscover) words
-
--- the words spell `/query /source`
-abbrev pub IsQuerySource : List (List ℕ) → Type 0
-IsQuerySource words = IsCommand QuerySource words
-
--- the words spell `/query /bits`
-abbrev pub IsQueryBits : List (List ℕ) → Type 0
-IsQueryBits words = IsCommand QueryBits words
 
 -- the words spell no command
 abbrev pub SpellNothing : List (List ℕ) → Type 0
