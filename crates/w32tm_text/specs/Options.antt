@@ -8,7 +8,7 @@ use Rattle.w32tm_text.specs.declared.options.OptionName.TheVariants.{Config, Kee
 use Rattle.w32tm_text.specs.declared.options.Rule.{Rule}
 use Rattle.w32tm_text.specs.declared.options.Rule.TheVariants.{Required, Allowed, Refused}
 use Rattle.w32tm_text.specs.declared.words.Action.{Action}
-use Rattle.w32tm_text.specs.declared.words.Action.TheVariants.{Sign, Show, Dc, Member, Monitor, Replay, Simulate}
+use Rattle.w32tm_text.specs.declared.words.Action.TheVariants.{Sign, Show, Dc, Member, Monitor, Replay}
 use Rattle.w32tm_text.specs.declared.words.Command.{Command}
 
 -- how the words that give an option begin
@@ -43,11 +43,6 @@ rule_of Replay Keeper = Refused
 rule_of Replay Capture = Allowed
 rule_of Replay Port = Refused
 rule_of Replay Clock = Refused
-rule_of (Simulate seed operations) Config = Refused
-rule_of (Simulate seed operations) Keeper = Refused
-rule_of (Simulate seed operations) Capture = Allowed
-rule_of (Simulate seed operations) Port = Refused
-rule_of (Simulate seed operations) Clock = Refused
 
 -- the word at this place, behind the first one, gives the option: its name, and then this text
 pub record GivesAt (name : OptionName) (words : List (List ℕ)) (place : ℕ) (text : List ℕ) : Type 0 where

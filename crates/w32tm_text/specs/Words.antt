@@ -5,7 +5,7 @@ use Rattle.hex.specs.Hex.{decode_of}
 use Rattle.key_book.specs.declared.account.Account.{Account}
 use Rattle.key_book.specs.AccountText.{SpellsKey}
 use Rattle.w32tm_text.specs.declared.words.Action.{Action}
-use Rattle.w32tm_text.specs.declared.words.Action.TheVariants.{Sign, Show, Dc, Member, Monitor, Replay, Simulate}
+use Rattle.w32tm_text.specs.declared.words.Action.TheVariants.{Sign, Show, Dc, Member, Monitor, Replay}
 use Rattle.w32tm_text.specs.declared.words.Command.{Command}
 use Rattle.w32tm_text.specs.Options.{SpellOptions}
 
@@ -55,19 +55,6 @@ pub record SpellsTurns (name : List ℕ) (turns : ℕ) (word : List ℕ) : Type 
   pub most : turns ≤ 1000000
   pub written : word ≡ name ++ decimal turns
 
--- `SEED:N`: a decimal of 32 bits, and a decimal of 1 to 100,000
-pub record SpellsScript (seed operations : ℕ) (text : List ℕ) : Type 0 where
-  pub fits : seed < 2 ^ 32
-  pub some : 1 ≤ operations
-  pub most : operations ≤ 100000
-  pub written : text ≡ decimal seed ++ colon ∷ decimal operations
-
--- `/simulate:`, and the seed and the number of operations of a script
-pub record SpellsSimulate (seed operations : ℕ) (word : List ℕ) : Type 0 where
-  pub text : List ℕ
-  pub written : word ≡ codes "/simulate:" ++ text
-  pub spelled : SpellsScript seed operations text
-
 -- the first word says what is to be done
 abbrev pub SpellsAction : Action → List ℕ → Type 0
 SpellsAction (Sign account) word = SpellsSign account word
@@ -76,7 +63,6 @@ SpellsAction (Dc turns) word = SpellsTurns (codes "/dc:") turns word
 SpellsAction (Member turns) word = SpellsTurns (codes "/member:") turns word
 SpellsAction Monitor word = word ≡ codes "/monitor"
 SpellsAction Replay word = word ≡ codes "/replay"
-SpellsAction (Simulate seed operations) word = SpellsSimulate seed operations word
 
 -- the words are those of the command: the first says what is to be done, and the options stand behind it
 pub record SpellsCommand (c : Command) (words : List (List ℕ)) : Type 0 where
@@ -115,10 +101,6 @@ IsMonitor words = IsCommand Monitor words
 -- the words spell `/replay`
 abbrev pub IsReplay : List (List ℕ) → Type 0
 IsReplay words = IsCommand Replay words
-
--- the words spell `/simulate` with this seed, for so many operations
-abbrev pub IsSimulate : ℕ → ℕ → List (List ℕ) → Type 0
-IsSimulate seed operations words = IsCommand (Simulate seed operations) words
 
 -- the words spell no command
 abbrev pub SpellNothing : List (List ℕ) → Type 0

@@ -154,10 +154,6 @@ impl Action {
                 OptionName::Capture => Rule::Allowed,
                 OptionName::Keeper | OptionName::Port | OptionName::Clock => Rule::Refused,
             },
-            Action::Simulate(_, _) => match name {
-                OptionName::Capture => Rule::Allowed,
-                _ => Rule::Refused,
-            },
         }
     }
 }

@@ -4,7 +4,7 @@ ghost use Rattle.hex.specs.Hex.{decode_of};
 ghost use Rattle.key_book.specs.declared.account.Account.{Account};
 ghost use Rattle.w32tm_text.specs.declared.words.Action.{Action};
 ghost use Rattle.w32tm_text.specs.declared.words.Command.{Command};
-ghost use Rattle.w32tm_text.specs.Words.{SpellsAccount, SpellsAction, SpellsCommand, SpellsDatagram, SpellsKeys, SpellsScript, texts};
+ghost use Rattle.w32tm_text.specs.Words.{SpellsAccount, SpellsAction, SpellsCommand, SpellsDatagram, SpellsKeys, texts};
 
 use crate::options::read_options;
 use edge_traits::{DATAGRAM_LEN, Datagram};
@@ -19,9 +19,6 @@ const REPLAY: &[u8] = b"/replay";
 
 /// The most turns of a run.
 const MOST_TURNS: u32 = 1_000_000;
-
-/// The most operations of a simulation.
-const MOST_OPERATIONS: u32 = 100_000;
 
 /// What is to be done.
 #[derive(Drop)]
@@ -38,9 +35,6 @@ pub enum Action {
     Monitor,
     /// `/replay`: print what a member does with the events of a capture.
     Replay,
-    /// `/simulate:SEED:N`: run a member and a controller in a simulated world, by the script of this seed, for so many
-    /// operations.
-    Simulate(u32, u32),
 }
 
 /// What the words say.
@@ -78,8 +72,6 @@ pub struct BadWords;
 ///   `/capture:PATH`, `/port:N` and `/clock:PATH`.
 /// - `/monitor`, which requires `/config:PATH` and allows `/port:N`.
 /// - `/replay`, which requires `/config:PATH` and allows `/capture:PATH`.
-/// - `/simulate:SEED:N`, where SEED is a decimal of at most 4,294,967,295 and N one of 1 to 100,000, both without sign or
-///   leading zero. It allows `/capture:PATH`.
 ///
 /// The options stand behind it in any order, each at most once, and no others. A path is any text that isn't empty, and
 /// N a decimal of 1 to 65,535 without sign or leading zero. All other words are `BadWords`.
@@ -111,14 +103,10 @@ fn read_action(word: &[u8]) -> Option<Action>
         return Some(Action::Show(read_datagram(digits)?));
     }
     if let Some(turns) = behind(word, b"/dc:") {
-        return Some(Action::Dc(read_count(turns, MOST_TURNS)?));
+        return Some(Action::Dc(read_turns(turns)?));
     }
     if let Some(turns) = behind(word, b"/member:") {
-        return Some(Action::Member(read_count(turns, MOST_TURNS)?));
-    }
-    if let Some(script) = behind(word, b"/simulate:") {
-        let (seed, operations) = read_script(script)?;
-        return Some(Action::Simulate(seed, operations));
+        return Some(Action::Member(read_turns(turns)?));
     }
     if word == MONITOR {
         Some(Action::Monitor)
@@ -138,28 +126,15 @@ pub(crate) fn behind<'a>(word: &'a [u8], name: &[u8]) -> Option<&'a [u8]>
     word.strip_prefix(name)
 }
 
-/// A number of 1 to this one.
-fn read_count(text: &[u8], most: u32) -> Option<u32>
-    ensures read { IfSome result (λ n. (1 ≤ n) × (n ≤ most) × (text.now ≡ decimal n)) }
-    ensures found { (n : ℕ) → 1 ≤ n → n ≤ most → text.now ≡ decimal n → result ≡ Some n }
+/// A number of turns.
+fn read_turns(text: &[u8]) -> Option<u32>
+    ensures read { IfSome result (λ n. (1 ≤ n) × (n ≤ 1000000) × (text.now ≡ decimal n)) }
+    ensures found { (n : ℕ) → 1 ≤ n → n ≤ 1000000 → text.now ≡ decimal n → result ≡ Some n }
 {
     match read_decimal(text) {
-        Some(count) if count > 0 && count <= most => Some(count),
+        Some(turns) if turns > 0 && turns <= MOST_TURNS => Some(turns),
         _ => None,
     }
-}
-
-/// The seed and the number of operations of `SEED:N`.
-fn read_script(text: &[u8]) -> Option<(u32, u32)>
-    ensures read { IfSome result (λ s. SpellsScript s.0 s.1 text.now) }
-    ensures found { (seed operations : ℕ) → SpellsScript seed operations text.now
-        → result ≡ Some record { 0 = seed; 1 = operations } }
-{
-    let (seed, operations) = cut(text, b':')?;
-    Some((
-        read_decimal(seed)?,
-        read_count(operations, MOST_OPERATIONS)?,
-    ))
 }
 
 /// The account of `RID:KEY` or `RID:KEY:PREVIOUS`.
