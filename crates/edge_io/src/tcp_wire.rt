@@ -1,9 +1,10 @@
 //! Sessions of TCP.
-ghost use Rattle.std.specs.Prelude.{◌≡◌, ◌≢◌, ◌<◌, false, true, IfErr, IfOk, IsFalse, IsTrue, None, length};
+ghost use Rattle.std.specs.Prelude.{◌≡◌, ◌≢◌, ◌<◌, false, true, IfErr, IfOk, IfSome, IsErrAnd, IsFalse, None};
+ghost use Rattle.std.specs.Prelude.{length};
 ghost use Rattle.std.specs.IoError.{error_kind};
 ghost use Rattle.std.specs.Option.{is_some};
 ghost use Rattle.edge_io.specs.TcpWire.{Answers, SessionGives, SessionTakes, is_accepting, used_up};
-ghost use Rattle.edge_io.specs.declared.tcp_wire.Side.TheVariants.{Closed, Connecting};
+ghost use Rattle.edge_io.specs.declared.tcp_wire.Side.TheVariants.{Closed, Connecting, Ended};
 ghost use Rattle.edge_traits.specs.Sink.{PutCounts};
 ghost use Rattle.edge_traits.specs.Source.{TakeCounts};
 ghost use Rattle.edge_traits.specs.Wire.{is_session, OpenedCounts, Opens, WireReads, WireWrites};
@@ -117,8 +118,11 @@ impl<R: Net + Clock + Drop> TcpWire<R> {
         }
     }
 
-    /// The port that the wire accepts on.
-    pub fn port(&self) -> io::Result<u16> {
+    /// The port that the wire accepts on. Where it accepts none, the error is NotConnected.
+    pub fn port(&self) -> io::Result<u16>
+        ensures no_port { is_accepting self.now.side ≡ false
+            → IsErrAnd result (λ error. error_kind error ≡ ErrorKind.NotConnected) }
+    {
         match &self.side {
             Side::Accepting(listener) => Ok(listener.local_addr()?.port()),
             _ => Err(io::Error::from(ErrorKind::NotConnected)),
@@ -128,6 +132,7 @@ impl<R: Net + Clock + Drop> TcpWire<R> {
     /// A new connection with its limits set, or none where it can't be had.
     fn connection(&self) -> Option<R::Stream>
         ensures closed { self.now.side ≡ Closed → result ≡ None }
+        ensures ended { self.now.side ≡ Ended → result ≡ None }
     {
         match &self.side {
             Side::Accepting(listener) => with_limits(accept_again(listener).ok()?),
@@ -294,7 +299,9 @@ fn is_passing(error: &io::Error) -> bool
 }
 
 /// The stream, whose reads and writes wait for so long, or none where that can't be set.
-fn with_limits<S: OpenStream + Drop>(stream: S) -> Option<S> {
+fn with_limits<S: OpenStream + Drop>(stream: S) -> Option<S>
+    ensures same { IfSome result (λ limited. limited ≡ stream) }
+{
     let limit = Some(Duration::from_secs(IDLE_SECONDS));
     stream.set_read_timeout(limit).ok()?;
     stream.set_write_timeout(limit).ok()?;
@@ -449,6 +456,30 @@ mod tests {
         let failed = wire.read(&mut [0; 8]);
         let is_closed = neither_reads_nor_writes(&mut wire, Take::Failed);
         assert_eq!(rt; (failed, is_closed), (Take::Failed, true));
+        Ok(())
+    }
+
+    /// Whether a write fails before very many pieces were taken.
+    fn fills_up<W: Wire>(wire: &mut W) -> bool {
+        for _ in 0..20_000 {
+            if wire.write(&[7; 4096]) == Put::Failed {
+                return true;
+            }
+        }
+        false
+    }
+
+    #[test]
+    fn a_peer_that_never_reads(rt: HostRuntime) -> Result<(), Fail> {
+        let mut wire = TcpWire::listen(&rt, 0)?;
+        let _client = TcpStream::connect(&rt, at(wire.port()?))?;
+        let opened = wire.next_session();
+        if let Some(stream) = &wire.stream {
+            stream.set_write_timeout(Some(Duration::from_millis(1)))?;
+        }
+        let is_full = fills_up(&mut wire);
+        let is_closed = neither_reads_nor_writes(&mut wire, Take::Failed);
+        assert_eq!(rt; (opened, is_full, is_closed), (Opened::Session, true, true));
         Ok(())
     }
 

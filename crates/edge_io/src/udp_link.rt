@@ -1,5 +1,5 @@
 //! Datagrams of a socket.
-ghost use Rattle.std.specs.Prelude.{◌≡◌, ◌≢◌, ◌≤◌, ◌⊎◌, [], ◌∷◌, IfErr, IfOk, IsFalse, IsSome, IsTrue};
+ghost use Rattle.std.specs.Prelude.{◌≡◌, ◌≢◌, ◌≤◌, ◌⊎◌, [], ◌∷◌, IfErr, IfOk, IsErrAnd, IsFalse, IsSome, IsTrue};
 ghost use Rattle.std.specs.Prelude.{None, length, take};
 ghost use Rattle.std.specs.IoError.{error_kind};
 ghost use Rattle.std.specs.Net.Addr.{ipv4_bits, IsIpv4OfBits};
@@ -53,8 +53,11 @@ impl UdpLink {
         }
     }
 
-    /// The port that the link is on.
-    pub fn port(&self) -> io::Result<u16> {
+    /// The port that the link is on. Without a socket the error is NotConnected.
+    pub fn port(&self) -> io::Result<u16>
+        ensures no_port { self.now.socket ≡ None
+            → IsErrAnd result (λ error. error_kind error ≡ ErrorKind.NotConnected) }
+    {
         match &self.socket {
             Some(socket) => Ok(socket.local_addr()?.port()),
             None => Err(io::Error::from(ErrorKind::NotConnected)),

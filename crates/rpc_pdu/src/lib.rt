@@ -28,7 +28,7 @@ mod reader;
 mod tests;
 mod write;
 
-pub use bind::{Bind, Context, ContextList, read_bind};
+pub use bind::{Bind, Context, ContextList, INTERFACE, NDR, read_bind};
 pub use body::BodyBytes;
 pub use fault::PduFault;
 pub use laws::laws_of_pdus;

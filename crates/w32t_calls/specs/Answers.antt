@@ -14,7 +14,7 @@ use Rattle.w32t_calls.specs.declared.reaction.Reaction.TheVariants.{Answers, Bin
 use Rattle.w32t_calls.specs.Contexts.{accepted_of, contexts_in, is_accepted}
 use Rattle.w32t_calls.specs.Stubs.{answer_stub, bits_number, source_number, sync_number}
 
--- a PDU that answers
+-- a PDU as either side writes it
 abbrev pub answer_pdu : ℕ → ℕ → List ℕ → Pdu
 answer_pdu kind call_id body = record { kind = kind; flags = 3; call_id = call_id; body = body }
 

@@ -10,18 +10,16 @@ ghost use Rattle.w32t_calls.specs.Answers.{protocol_error, reaction, reaction_to
 use crate::Given;
 use crate::accepted::Accepted;
 use crate::asked::Asked;
+use crate::pdus::{PDU_LEN, pdu_of};
 use crate::places::half_word_at;
 use crate::reaction::Reaction;
 use crate::stubs::{BITS, SOURCE, STUB_LEN, SYNC, SYNC_LEN, call_for, stub_of};
 use arrayvec::ArrayVec;
 use byte_codec::{add, add_u16_low_first, add_u32_low_first};
 use rpc_pdu::{
-    BIND, BIND_ACK, BIND_NAK, Bind, BodyBytes, Context, ContextList, FAULT, OBJECT, Pdu, REQUEST,
-    RESPONSE, WHOLE, read_bind,
+    BIND, BIND_ACK, BIND_NAK, Bind, Context, ContextList, FAULT, NDR, OBJECT, Pdu, REQUEST,
+    RESPONSE, read_bind,
 };
-
-/// Bytes in a PDU, at most, that are sent and taken.
-const PDU_LEN: u16 = 5_840;
 
 /// Contexts that a bind may offer.
 const OFFERED: u8 = 8;
@@ -40,12 +38,6 @@ const REQUEST_LEN: usize = 8;
 
 /// Bytes of a request before its stub, with an object identifier.
 const OBJECT_LEN: usize = 24;
-
-/// The transfer syntax NDR, 8a885d04-1ceb-11c9-9fe8-08002b104860 version 2 (C706, 14), as it is written.
-const NDR: [u8; 20] = [
-    0x04, 0x5D, 0x88, 0x8A, 0xEB, 0x1C, 0xC9, 0x11, 0x9F, 0xE8, 0x08, 0x00, 0x2B, 0x10, 0x48, 0x60,
-    0x02, 0x00, 0x00, 0x00,
-];
 
 /// No transfer syntax.
 const NO_SYNTAX: [u8; 20] = [0; 20];
@@ -141,22 +133,6 @@ fn is_known(operation: u16) -> bool
     matches!(operation, SYNC | BITS | SOURCE)
 }
 
-/// The PDU with this body that answers the PDU with this call identifier.
-fn answer(kind: u8, call_id: u32, body: &[u8]) -> Pdu
-    requires { length body.now ≤ 5824 }
-    ensures { result ≡ answer_pdu kind call_id body.now }
-{
-    match BodyBytes::from_slice(body) {
-        Some(body) => Pdu {
-            kind,
-            flags: WHOLE,
-            call_id,
-            body,
-        },
-        None => unreachable!(),
-    }
-}
-
 /// The bind_nak: too many contexts are offered, and version 5.0 is spoken.
 fn bind_nak(call_id: u32) -> Pdu
     ensures { result ≡ answer_pdu bind_nak_kind call_id nak_body }
@@ -164,7 +140,7 @@ fn bind_nak(call_id: u32) -> Pdu
     let mut body: ArrayVec<u8, 5> = ArrayVec::new();
     add_u16_low_first(&mut body, 2);
     add(&mut body, &[1, 5, 0]);
-    answer(BIND_NAK, call_id, body.as_slice())
+    pdu_of(BIND_NAK, call_id, body.as_slice())
 }
 
 /// The bind_ack, with a result for each context.
@@ -179,7 +155,7 @@ fn bind_ack(call_id: u32, bind: &Bind) -> Pdu
     add_u16_low_first(&mut body, 0);
     add(&mut body, &[0, 0, bind.contexts.len() as u8, 0, 0, 0]);
     add_results(&mut body, &bind.contexts);
-    answer(BIND_ACK, call_id, body.as_slice())
+    pdu_of(BIND_ACK, call_id, body.as_slice())
 }
 
 /// Adds a result for each context.
@@ -235,7 +211,7 @@ fn fault(call_id: u32, context: u16, status: u32) -> Pdu
     add(&mut body, &[0; 2]);
     add_u32_low_first(&mut body, status);
     add_u32_low_first(&mut body, 0);
-    answer(FAULT, call_id, body.as_slice())
+    pdu_of(FAULT, call_id, body.as_slice())
 }
 
 /// The response to a call.
@@ -248,5 +224,5 @@ pub(crate) fn response(asked: &Asked, given: &Given) -> Pdu
     add_u16_low_first(&mut body, asked.context);
     add(&mut body, &[0; 2]);
     add(&mut body, stub.as_slice());
-    answer(RESPONSE, asked.call_id, body.as_slice())
+    pdu_of(RESPONSE, asked.call_id, body.as_slice())
 }

@@ -258,8 +258,8 @@ fn pdu(kind: u8, call: u8, body: &[u8]) -> ArrayVec<u8, 300> {
     out
 }
 
-/// The body of a bind_ack with a secondary address and results of these counts, whose first result begins with this byte.
-fn ack_body(address: u8, results: u8, first: u8) -> ArrayVec<u8, 300> {
+/// The body of a bind_ack with a secondary address and results of these counts, whose first result is this one.
+fn ack_body(address: u8, results: u8, first: u16) -> ArrayVec<u8, 300> {
     let mut out = ArrayVec::new();
     let _ = out.try_extend_from_slice(&[0xD0, 0x16, 0xD0, 0x16, 1, 0, 0, 0, address, 0]);
     for _ in 0..address {
@@ -272,8 +272,9 @@ fn ack_body(address: u8, results: u8, first: u8) -> ArrayVec<u8, 300> {
     }
     let _ = out.try_extend_from_slice(&[results, 0, 0, 0]);
     for result in 0..results {
-        let _ = out.try_push(if result == 0 { first } else { 1 });
-        let _ = out.try_extend_from_slice(&[0; 23]);
+        let code: u16 = if result == 0 { first } else { 1 };
+        let _ = out.try_extend_from_slice(&code.to_le_bytes());
+        let _ = out.try_extend_from_slice(&[0; 22]);
     }
     out
 }
@@ -334,8 +335,8 @@ fn replies_to_a_bind(rt: HostRuntime) {
 
 #[test]
 fn results_of_a_bind(rt: HostRuntime) {
-    // The length of the secondary address, the number of results, the first byte of the first one, and how many bytes the
-    // body lacks or has beside them.
+    // The length of the secondary address, the number of results, the first one, and how many bytes the body lacks or has
+    // beside them.
     let rejected = Err(CallFault::Rejected);
     let bad = Err(CallFault::BadReply(0));
     for (address, results, first, missing, more, told) in [
@@ -347,6 +348,8 @@ fn results_of_a_bind(rt: HostRuntime) {
         (0, 3, 0, 0, 0, Ok(())),
         (0, 1, 2, 0, 0, rejected),
         (5, 2, 1, 0, 0, rejected),
+        (0, 1, 0x0100, 0, 0, rejected),
+        (0, 1, 0xFF00, 0, 0, rejected),
         (0, 0, 0, 0, 0, rejected),
         (2, 0, 0, 0, 9, rejected),
         (0, 1, 0, 1, 0, bad),

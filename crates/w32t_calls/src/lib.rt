@@ -28,6 +28,7 @@ mod caller;
 mod caller_tests;
 mod end;
 mod laws;
+mod pdus;
 mod places;
 mod reaction;
 mod replies;
