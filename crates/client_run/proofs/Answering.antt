@@ -1,4 +1,4 @@
--- The first call behind the bind, and what it is told.
+-- The first call after the bind, and what it is told.
 use Rattle.std.proofs.Common.{◌≡◌, ℕ, ◌+◌, Bool, List, Option, Result, Ok, Err, sym, ◌∙◌, ap, subst}
 use Rattle.edge_traits.specs.Wire.{Entry}
 use Rattle.rpc_pdu.specs.Reader.{Reader}

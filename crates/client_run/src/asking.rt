@@ -1,4 +1,4 @@
-//! One call of a remote computer.
+//! One call to a remote computer.
 ghost use Rattle.std.specs.Prelude.{◌≡◌, true, IfOk};
 ghost use Rattle.w32t_calls.specs.Asking.{call_pdu};
 ghost use Rattle.w32t_calls.specs.Calling.{Asks, CallCounts};
@@ -73,7 +73,7 @@ fn ask_in<W: Wire>(call: Call, wire: &mut W) -> Result<Given, CallFault>
     answer_to(call, &mut caller, wire)
 }
 
-/// Makes the first call behind the bind.
+/// Makes the first call after the bind.
 fn answer_to<W: Wire>(call: Call, caller: &mut Caller, wire: &mut W) -> Result<Given, CallFault>
     requires bound { caller.old.bound ≡ true }
     requires first { caller.old.calls ≡ 1 }

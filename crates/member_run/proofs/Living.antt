@@ -45,7 +45,7 @@ use Rattle.run_deeds.specs.Counting.{ended, more, with_why}
 use Rattle.run_deeds.specs.Weaving.{Need, Start, Turns, WordFor, ReceiptNow, ReadingFor, Calls, CallWord, Round, RoundReading, Act, Stood, Weaves, none, acts, life, reads, draws, followed_by, posted_of, turns_of, weave}
 use Rattle.run_deeds.specs.Deeds.{Deed, Take, Print, Ending, Whole, NoRecord, NoLine, HasLine, IsWhole, all_done, along, cut_record, events_given, events_in, history_after, line_in, missing_in, posted_in, moves_in, printed, reasons_in, ticks_in}
 use Rattle.edge_seen.specs.Seen.{Seen}
-use Rattle.run_deeds.specs.Devices.{Faults, Given, IsBeforeTick, IsBehind, IsBetween, IsInCalls, IsToDo, LifeEndsBy, NeedsCount, NeedsDisk, NeedsMark, NeedsReading, NeedsReceipt, NeedsWord, SinkFailed, StopsAt, faults, living, faults_of}
+use Rattle.run_deeds.specs.Devices.{Faults, Given, IsBeforeRequest, IsBehind, IsBetween, IsInCalls, IsOver, IsToDo, LifeEndsBy, NeedsCount, NeedsDisk, NeedsMark, NeedsReading, NeedsReceipt, NeedsWord, SinkFailed, StopsAt, faults, living, faults_of}
 use Rattle.run_deeds.specs.Marks.{Covers, KeepsLoadable, MarksBeforeSends, Reserved, blocks_of}
 use Rattle.run_deeds.specs.Parts.{Part, Runs, Tallies}
 use Rattle.run_deeds.specs.Lives.{CallsForBlocks, KeptBy, Lives, Reports, StandsForBlocks, Totals, behind_act}
@@ -216,6 +216,10 @@ at_between : (need : Need) → IsBetween need → IsMissing need []
 at_between (Act outcome behind) needs = absurd needs
 at_between _ needs = refl
 
+at_over : (need : Need) → IsOver need → IsMissing need []
+at_over (Act outcome behind) over = absurd over
+at_over _ over = refl
+
 at_deed : (event : Event) (need : Need) → IsToDo event need → IsMissing need (event ∷ [])
 at_deed event (Act outcome behind) does = (event, refl)
 at_deed event (Start stood next) does = absurd does
@@ -240,7 +244,7 @@ stops_missing (NoLine (Take (Life now mark)) front) need stops = inr tt
 stops_missing (NoLine (Take (Tick now word)) front) need stops = inl (at_receipt need stops)
 stops_missing (NoLine (Take (Resync now word flags)) front) need stops = inl (at_calls need stops)
 stops_missing (NoLine (Take (Arrive now from bytes)) front) need stops = inl (at_between need stops)
-stops_missing (NoLine (Print line) front) need stops = inl (subst (λ (n : Need). IsMissing n []) (sym stops) refl)
+stops_missing (NoLine (Print line) front) need stops = inl (at_over need stops)
 
 -- where a run ended, it is known which event is missing, but where it is of no account
 known_missing : (why : Why) (ending : Ending) (need : Need) (a b : Faults) → LifeEndsBy why ending need a b → (why ≡ Done → need ≡ Turns 0)
@@ -467,7 +471,7 @@ blocks_whole : (why : Why) (ending : Ending) (need : Need) (entries : List Told)
     → CallsForBlocks why ending need entries start end → end ≤ start + 5 * blocks_of entries
 blocks_whole why ending need entries start end whole all (inl few) = few
 blocks_whole why ending need entries start end whole all (inr (another, few)) =
-    let none_left : IsBeforeTick Whole (Turns 0) = rw (whole, all) at another.1 in
+    let none_left : IsBeforeRequest Whole (Turns 0) = rw (whole, all) at another.1 in
     absurd (omega (arith, none_left))
 
 -- nor does an image of it stand for more
@@ -475,7 +479,7 @@ stands_whole : (why : Why) (ending : Ending) (need : Need) (entries : List Told)
     → StandsForBlocks why ending need entries mark image → mark_of_image image ≤ mark + 64 * blocks_of entries
 stands_whole why ending need entries mark image whole all (inl low) = low
 stands_whole why ending need entries mark image whole all (inr (another, low)) =
-    let none_left : IsBeforeTick Whole (Turns 0) = rw (whole, all) at another.1 in
+    let none_left : IsBeforeRequest Whole (Turns 0) = rw (whole, all) at another.1 in
     absurd (omega (arith, none_left))
 
 pub record Parted (conf : Conf) (turns : ℕ) (stood : Stood) (new : Running) (entry exit : DiskTold) (before now : Seen) (why : Why) : Type 0 where
@@ -580,9 +584,6 @@ lives_made conf turns entry exit before now stood given taken ending need end te
   effects = record {
     link = lived.link;
     requests = lived.requests;
-    by_turn = lived.order.by_turn;
-    asked = lived.order.asked;
-    in_turn = lived.order.in_turn;
     clock = lived.clock;
     moves = lived.moves;
     rest = lived.order.rest;
@@ -593,6 +594,11 @@ lives_made conf turns entry exit before now stood given taken ending need end te
     record_bytes = flat_map event_bytes taken;
     spells = record { fits = lived.fits; written = refl };
     capture = lived.capture;
+  };
+  turned = record {
+    by_turn = lived.order.by_turn;
+    asked = lived.order.asked;
+    in_turn = lived.order.in_turn;
     text = text;
     reports = reports;
     out = out;
@@ -787,7 +793,7 @@ module _ (others : Seen) (conf : Conf) (turns : ℕ) (entry exit : DiskTold) (be
       (lived_as others conf turns stood before link clock words capture out out' link_faults (faults cf ef df kf of) (faults cf ef df kf of') given taken ending need SinkFault end refl refl lived)
       (first, rest, well, are, ap (λ (l : List ℕ). l ++ cut) is_report ∙ sym (append_assoc (report_of conf (reverse taken)) (joined first) (take front line)))
       (added_more before.written out out' printed_text cut wrote added)
-      (well, subst Failed same (fails, refl))
+      (subst IsOver (sym well) tt, subst Failed same (fails, refl))
       (λ is. well) (λ is now only. life_only lived.weaves (ap (λ (l : List Event). taken ++ l) refl ∙ only) well) tt (λ any. loads) still marks (λ some. within) calls (inl blocks) (within_blocks SinkFault ending need (life_at (told conf (reverse taken))) stood.mark entry exit most) unused (λ any image left. (loaded image left, inl (low image left))) (λ is. reserved)
   closes DiskFault never = absurd never
   closes BadVersion never = absurd never

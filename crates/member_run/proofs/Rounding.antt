@@ -94,13 +94,13 @@ outs-append conf history xs ys =
     ∙ ap (λ (h : History). outs_of conf history xs ++ outs_of conf h ys) (history_of history xs)
 
 -- events that lead from one history to another are the same
-same_taken : (history : History) (xs ys : List Event) → followed_by history xs ≡ followed_by history ys → xs ≡ ys
+pub same_taken : (history : History) (xs ys : List Event) → followed_by history xs ≡ followed_by history ys → xs ≡ ys
 same_taken history xs ys is =
     let both : reverse xs ++ history ≡ reverse ys ++ history = sym (followed-reverse history xs) ∙ is ∙ followed-reverse history ys in
     let turned : reverse xs ≡ reverse ys = append_cancel_right (reverse xs) (reverse ys) history both in
     sym (reverse-reverse xs) ∙ ap reverse turned ∙ reverse-reverse ys
 
-followed-append : (history : History) (xs ys : List Event) → followed_by history (xs ++ ys) ≡ followed_by (followed_by history xs) ys
+pub followed-append : (history : History) (xs ys : List Event) → followed_by history (xs ++ ys) ≡ followed_by (followed_by history xs) ys
 followed-append history [] ys = refl
 followed-append history (x ∷ xs) ys = followed-append (x ∷ history) xs ys
 

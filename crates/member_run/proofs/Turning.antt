@@ -26,7 +26,7 @@ use Rattle.run_deeds.specs.declared.life_end.Why.TheVariants.{Done, DiskFault, B
 use Rattle.run_deeds.specs.Weaving.{Need, Stood, Start, Turns, WordFor, ReceiptNow, ReadingFor, Calls, CallWord, Round, RoundReading, Act, Weaves, none, acts, life, reads, draws, gets, quiet, lost, arrives, followed_by, turns_of}
 use Rattle.run_deeds.specs.Deeds.{Deed, Take, Ending, Whole, NoRecord, NoLine, IsWhole, all_done, events_given, history_after, missing_in}
 use Rattle.edge_seen.specs.Seen.{Seen}
-use Rattle.run_deeds.specs.Devices.{Faults, IsBeforeTick, IsBehind, IsBetween, IsInCalls, IsToDo, LifeEndsBy, NeedsCount, NeedsDisk, NeedsMark, NeedsReading, NeedsReceipt, NeedsWord, nothing, faults_of}
+use Rattle.run_deeds.specs.Devices.{Faults, IsBeforeRequest, IsBehind, IsBetween, IsInCalls, IsToDo, LifeEndsBy, NeedsCount, NeedsDisk, NeedsMark, NeedsReading, NeedsReceipt, NeedsWord, nothing, faults_of}
 use Rattle.run_deeds.specs.Lives.{CallsForBlocks, StandsForBlocks}
 use Rattle.run_deeds.specs.Marks.{Covers, KeepsLoadable, Reserved, last_count}
 use Rattle.run_deeds.specs.Parts.{Part, Runs}
@@ -364,21 +364,21 @@ raised_ends left SinkFault deeds ending taken need a b takes ends = (stops_as (r
 
 -- where no event of a turn was taken, its Tick was not
 none_before : {conf : Conf} {history : History} {cs : List ClockCall} {ws : List ℕ} {ls : List LinkCall} {es : List Event} {need : Need} (left : ℕ)
-    → Weaves conf (Turns 1) history cs ws ls es need → es ≡ [] → IsBeforeTick Whole (raised left need)
+    → Weaves conf (Turns 1) history cs ws ls es need → es ≡ [] → IsBeforeRequest Whole (raised left need)
 none_before left none nothing = omega arith
 none_before left (reads none) nothing = tt
 none_before left (reads (draws rest)) nothing = absurd (let bad : ⊥ = cc in bad)
 
 record_before : {conf : Conf} {history : History} {cs : List ClockCall} {ws : List ℕ} {ls : List LinkCall} {es : List Event} {need : Need} (left front : ℕ) (event : Event)
-    → Weaves conf (Turns 1) history cs ws ls es need → es ≡ event ∷ [] → IsBeforeTick (NoRecord event front) (raised left need)
+    → Weaves conf (Turns 1) history cs ws ls es need → es ≡ event ∷ [] → IsBeforeRequest (NoRecord event front) (raised left need)
 record_before left front event none only = absurd (let bad : ⊥ = cc in bad)
 record_before left front event (reads none) only = absurd (let bad : ⊥ = cc in bad)
 record_before {need = need} left front event (reads {now = now} (draws {word = word} {es = es} rest)) only =
     let first : Tick now word ≡ event = let same : Tick now word ∷ es ≡ event ∷ [] = only in cc in
-    subst (λ (e : Event). IsBeforeTick (NoRecord e front) (raised left need)) first tt
+    subst (λ (e : Event). IsBeforeRequest (NoRecord e front) (raised left need)) first tt
 
 before_tick : {conf : Conf} {history : History} {cs : List ClockCall} {ws : List ℕ} {ls : List LinkCall} {need : Need} (left : ℕ) (deeds : List Deed) (ending : Ending) (taken : List Event)
-    → all_done deeds ending ≡ map Take taken → Weaves conf (Turns 1) history cs ws ls (events_given deeds ending) need → taken ≡ [] → IsBeforeTick ending (raised left need)
+    → all_done deeds ending ≡ map Take taken → Weaves conf (Turns 1) history cs ws ls (events_given deeds ending) need → taken ≡ [] → IsBeforeRequest ending (raised left need)
 before_tick left deeds Whole taken takes weaves nothing = none_before left weaves (given_are deeds Whole taken takes ∙ append-nil taken ∙ nothing)
 before_tick left deeds (NoRecord event front) taken takes weaves nothing =
     record_before left front event weaves (given_are deeds (NoRecord event front) taken takes ∙ ap (λ (l : List Event). l ++ event ∷ []) nothing)
@@ -507,7 +507,7 @@ pub record TurnsOn (turns left : ℕ) (history between : History) (old new : Run
   pub disk : why ≡ DiskFault → taken ≡ []
   pub spent : why ≡ StampsSpent → taken ≡ []
   pub turn : IsTurn taken
-  pub first : taken ≡ [] → IsBeforeTick part.runs.ending part.runs.need
+  pub first : taken ≡ [] → IsBeforeRequest part.runs.ending part.runs.need
 
 turns_on : (turns left : ℕ) (history : History) (old mid new : Running) (a b c : Seen) (why : Why)
     (one : Part (conf_of (member_of old)) (Turns turns) (Turns (suc left)) history a b (member_of mid) (kept_of old) (kept_of mid) (totals_of old) (totals_of mid) Done)
@@ -545,12 +545,12 @@ turns_on turns left history old mid new a b c why one turn =
     }
 
 -- the counts of the run between its turns, in the words of the history
-record Counted (running : Running) (conf : Conf) (history : History) : Type 0 where
-  last : running.last ≡ unwrap_or (mark_in conf history) 0 + sends_in conf history
-  reserved : Reserved (kept_of running) (told conf history)
+pub record Counted (running : Running) (conf : Conf) (history : History) : Type 0 where
+  pub last : running.last ≡ unwrap_or (mark_in conf history) 0 + sends_in conf history
+  pub reserved : Reserved (kept_of running) (told conf history)
 
 -- what the disk's calls of one turn come to
-calls_on : (conf : Conf) (between : History) (taken : List Event) (mid : Running) (e m x : DiskTold) (blocks : ℕ) → NoLife taken → Counted mid conf between
+pub calls_on : (conf : Conf) (between : History) (taken : List Event) (mid : Running) (e m x : DiskTold) (blocks : ℕ) → NoLife taken → Counted mid conf between
     → CallsWhereDue mid m x → m.time + 5 * blocks ≤ e.time + 5 * blocks_in conf between
     → 1 + sends_in conf between / 64 ≤ blocks_in conf (followed_by between taken)
     → x.time + 5 * blocks ≤ e.time + 5 * blocks_in conf (followed_by between taken)
@@ -559,7 +559,7 @@ calls_on conf between taken mid e m x blocks later counted (inl same) was ticked
 calls_on conf between taken mid e m x blocks later counted (inr due) was ticked =
     omega (arith, due.1, was, ticked, used_up mid conf between counted.last counted.reserved due.0)
 
-calls_fail : (conf : Conf) (between : History) (taken : List Event) (mid : Running) (e m x : DiskTold) (blocks : ℕ) → NoLife taken → Counted mid conf between
+pub calls_fail : (conf : Conf) (between : History) (taken : List Event) (mid : Running) (e m x : DiskTold) (blocks : ℕ) → NoLife taken → Counted mid conf between
     → CallsWhereDue mid m x → m.time + 5 * blocks ≤ e.time + 5 * blocks_in conf between
     → x.time + 5 * blocks ≤ e.time + 5 * (1 + sends_in conf (followed_by between taken) / 64)
 calls_fail conf between taken mid e m x blocks later counted (inl same) was =
@@ -568,9 +568,9 @@ calls_fail conf between taken mid e m x blocks later counted (inr due) was =
     omega (arith, due.1, was, sends_rise conf between taken later, used_up mid conf between counted.last counted.reserved due.0)
 
 -- what they come to, block by block, whether the turn was taken or not
-blocks_on : (why : Why) (ending : Ending) (need : Need) (conf : Conf) (between : History) (taken : List Event) (mid : Running) (e m x : DiskTold) (blocks : ℕ) → NoLife taken → Counted mid conf between
+pub blocks_on : (why : Why) (ending : Ending) (need : Need) (conf : Conf) (between : History) (taken : List Event) (mid : Running) (e m x : DiskTold) (blocks : ℕ) → NoLife taken → Counted mid conf between
     → CallsWhereDue mid m x → m.time + 5 * blocks ≤ e.time + 5 * blocks_in conf between
-    → (taken ≡ []) ⊎ (blocks_in conf (followed_by between taken) ≡ 1 + sends_in conf between / 64) → (taken ≡ [] → IsBeforeTick ending need)
+    → (taken ≡ []) ⊎ (blocks_in conf (followed_by between taken) ≡ 1 + sends_in conf between / 64) → (taken ≡ [] → IsBeforeRequest ending need)
     → (why ≡ StampsSpent → x.time ≡ m.time) → (why ≡ StampsSpent) ⊎ (why ≢ StampsSpent)
     → CallsForBlocks why ending need (life_at (told conf (followed_by between taken))) e.time (x.time + 5 * blocks)
 blocks_on why ending need conf between taken mid e m x blocks later counted (inl same) was reserves before still spent =
@@ -583,7 +583,7 @@ blocks_on why ending need conf between taken mid e m x blocks later counted (inr
     rw nothing
     (inr ((is_due (life_at (told conf between)) (used_up mid conf between counted.last counted.reserved due.0), before nothing, other), omega (arith, due.1, was)))
 
-spent_or_other : (why : Why) → (why ≡ StampsSpent) ⊎ (why ≢ StampsSpent)
+pub spent_or_other : (why : Why) → (why ≡ StampsSpent) ⊎ (why ≢ StampsSpent)
 spent_or_other StampsSpent = inl refl
 spent_or_other Done = inr (λ is. let bad : ⊥ = cc in bad)
 spent_or_other DiskFault = inr (λ is. let bad : ⊥ = cc in bad)
@@ -606,7 +606,7 @@ not_spent : (why : Why) (taken : List Event) (mid : Running) → taken ≢ [] �
 not_spent why taken mid some empty spends (inl high) used = absurd (some (empty (spends used high)))
 not_spent why taken mid some empty spends (inr low) used = low
 
-room_on : (why : Why) (conf : Conf) (between : History) (taken : List Event) (mid : Running) → NoLife taken → Counted mid conf between
+pub room_on : (why : Why) (conf : Conf) (between : History) (taken : List Event) (mid : Running) → NoLife taken → Counted mid conf between
     → (why ≡ StampsSpent → taken ≡ []) → (IsUsedUp mid → 4294967231 < kept_of mid → why ≡ StampsSpent) → mid.last ≤ kept_of mid → kept_of mid < 2 ^ 32
     → (taken ≡ []) ⊎ (blocks_in conf (followed_by between taken) ≡ 1 + sends_in conf between / 64) → (taken ≢ []) ⊎ (taken ≡ [])
     → unwrap_or (mark_in conf (followed_by between taken)) 0 + 64 * blocks_in conf (followed_by between taken) < 2 ^ 32
@@ -622,7 +622,7 @@ room_on why conf between taken mid later counted empty spends covered below (inr
     omega (arith, all, stays)
 
 -- no image of a whole turn stands for more than the blocks that are reserved behind it
-most_on : (conf : Conf) (between : History) (taken : List Event) (mid : Running) (count : ℕ) → NoLife taken → Counted mid conf between
+pub most_on : (conf : Conf) (between : History) (taken : List Event) (mid : Running) (count : ℕ) → NoLife taken → Counted mid conf between
     → 1 + sends_in conf between / 64 ≤ blocks_in conf (followed_by between taken)
     → (count ≤ kept_of mid) ⊎ (IsUsedUp mid × (count ≤ kept_of mid + 64))
     → count ≤ block_end conf (followed_by between taken)
@@ -636,17 +636,17 @@ most_on conf between taken mid count later counted ticked (inr due) =
     let full = used_up mid conf between counted.last counted.reserved due.0 in
     omega (arith, due.1, blocks, stays, full, ticked)
 
-some_or_none : {A : Type 0} (es : List A) → (es ≢ []) ⊎ (es ≡ [])
+pub some_or_none : {A : Type 0} (es : List A) → (es ≢ []) ⊎ (es ≡ [])
 some_or_none [] = inr refl
 some_or_none (e ∷ es) = inl (λ is. let bad : ⊥ = cc is in bad)
 
 -- nor one of the turns before
-low_on : (conf : Conf) (between : History) (taken : List Event) (count : ℕ) → NoLife taken → count ≤ block_end conf between → count ≤ block_end conf (followed_by between taken)
+pub low_on : (conf : Conf) (between : History) (taken : List Event) (count : ℕ) → NoLife taken → count ≤ block_end conf between → count ≤ block_end conf (followed_by between taken)
 low_on conf between taken count later low =
     let stays = ap (λ (o : Option ℕ). unwrap_or o 0) (mark_stays conf between taken later) in
     omega (arith, low, stays, blocks_stay conf between taken later)
 
-moments_on : (conf : Conf) (between : History) (taken : List Event) (mid : Running) (e m x : DiskTold) → NoLife taken → Counted mid conf between
+pub moments_on : (conf : Conf) (between : History) (taken : List Event) (mid : Running) (e m x : DiskTold) → NoLife taken → Counted mid conf between
     → 1 + sends_in conf between / 64 ≤ blocks_in conf (followed_by between taken)
     → LeavesOnly e m (λ image. mark_of_image image ≤ block_end conf between) → RisesWhereDue mid m x
     → LeavesOnly e x (λ image. mark_of_image image ≤ block_end conf (followed_by between taken))
@@ -655,8 +655,8 @@ moments_on conf between taken mid e m x later counted ticked first next =
     (λ image rises. most_on conf between taken mid (mark_of_image image) later counted ticked rises)
 
 -- of a turn that ends the run, an image stands for a block more where its Tick was not taken
-stands_on : (why : Why) (ending : Ending) (need : Need) (conf : Conf) (between : History) (taken : List Event) (mid : Running) (image : List ℕ) → NoLife taken → Counted mid conf between
-    → (taken ≡ []) ⊎ (blocks_in conf (followed_by between taken) ≡ 1 + sends_in conf between / 64) → (taken ≡ [] → IsBeforeTick ending need) → why ≢ StampsSpent
+pub stands_on : (why : Why) (ending : Ending) (need : Need) (conf : Conf) (between : History) (taken : List Event) (mid : Running) (image : List ℕ) → NoLife taken → Counted mid conf between
+    → (taken ≡ []) ⊎ (blocks_in conf (followed_by between taken) ≡ 1 + sends_in conf between / 64) → (taken ≡ [] → IsBeforeRequest ending need) → why ≢ StampsSpent
     → (mark_of_image image ≤ kept_of mid) ⊎ (IsUsedUp mid × (mark_of_image image ≤ kept_of mid + 64))
     → StandsForBlocks why ending need (life_at (told conf (followed_by between taken))) (unwrap_or (mark_in conf (followed_by between taken)) 0) image
 stands_on why ending need conf between taken mid image later counted reserves before other (inl low) =
@@ -670,9 +670,9 @@ stands_on why ending need conf between taken mid image later counted (inl nothin
     rw nothing (inr ((is, before nothing, other), omega (arith, due.1, blocks)))
 
 -- where no mark is left the disk is as before
-moments_end : (why : Why) (ending : Ending) (need : Need) (conf : Conf) (between : History) (taken : List Event) (mid : Running) (e m x : DiskTold) → NoLife taken → Counted mid conf between
+pub moments_end : (why : Why) (ending : Ending) (need : Need) (conf : Conf) (between : History) (taken : List Event) (mid : Running) (e m x : DiskTold) → NoLife taken → Counted mid conf between
     → LeavesOnly e m (λ image. mark_of_image image ≤ block_end conf between) → RisesWhereDue mid m x
-    → (taken ≡ []) ⊎ (blocks_in conf (followed_by between taken) ≡ 1 + sends_in conf between / 64) → (taken ≡ [] → IsBeforeTick ending need)
+    → (taken ≡ []) ⊎ (blocks_in conf (followed_by between taken) ≡ 1 + sends_in conf between / 64) → (taken ≡ [] → IsBeforeRequest ending need)
     → (why ≡ StampsSpent → x ≡ m) → (why ≡ StampsSpent) ⊎ (why ≢ StampsSpent)
     → LeavesOnly e x (StandsForBlocks why ending need (life_at (told conf (followed_by between taken))) (unwrap_or (mark_in conf (followed_by between taken)) 0))
 moments_end why ending need conf between taken mid e m x later counted first next reserves before still (inl is) =
@@ -709,7 +709,7 @@ turned_on turns left history old mid new e m x a b c was last calls rises turn =
     }
 
 -- what the answers that speak of the disk say
-due_by : (why : Why) (conf : Conf) (between : History) (taken : List Event) (mid : Running) → Counted mid conf between
+pub due_by : (why : Why) (conf : Conf) (between : History) (taken : List Event) (mid : Running) → Counted mid conf between
     → (why ≡ DiskFault → taken ≡ []) → (why ≡ StampsSpent → taken ≡ []) → why ≢ BadVersion
     → (why ≡ DiskFault → IsUsedUp mid) → (why ≡ StampsSpent → IsUsedUp mid × (4294967231 < kept_of mid))
     → DueBy why (told conf (followed_by between taken))

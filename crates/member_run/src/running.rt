@@ -281,8 +281,9 @@ impl Running {
         self.take(&Event::Arrive { now, from, bytes }, devices)
     }
 
-    /// The closing lines of a run.
-    pub(crate) fn close<O: Sink>(&self, out: &mut O) -> Result<(), Why>
+    /// Writes the closing lines of a run: the numbers of what it came to, and the line of the link. The error is
+    /// `SinkFault`.
+    pub fn close<O: Sink>(&self, out: &mut O) -> Result<(), Why>
         ensures { Closes (totals_of self.now) (why_of result)
             (O.written out.old) (O.written out.new) (O.faults out.old) (O.faults out.new) }
     {

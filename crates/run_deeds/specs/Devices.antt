@@ -1,5 +1,5 @@
 -- What the devices of a run tell, and what a part of a run was given and did.
-use Rattle.std.specs.Prelude.{◌≡◌, ℕ, ◌<◌, List, [], ◌∷◌, map, Option, ⊤}
+use Rattle.std.specs.Prelude.{◌≡◌, ℕ, zero, ◌<◌, List, [], ◌∷◌, map, Option, ⊤}
 use Rattle.std.specs.List.{AllByRecursion}
 use Rattle.base_specs.specs.Counts.{Fails, FailsTimes, Rose}
 use Rattle.base_specs.specs.Told.{Added, Grew}
@@ -110,12 +110,16 @@ NeedsDisk (Turns left) = 0 < left
 NeedsDisk (Calls (call ∷ left)) = ⊤
 NeedsDisk _ = ⊥
 
--- the Tick of a turn was not taken: its reading or its word is needed next, or its record could not be written
-abbrev pub IsBeforeTick : Ending → Need → Type 0
-IsBeforeTick Whole (Turns left) = 0 < left
-IsBeforeTick Whole (WordFor left now) = ⊤
-IsBeforeTick (NoRecord (Tick now word) front) need = ⊤
-IsBeforeTick _ _ = ⊥
+-- the Tick of a turn, or the Resync of a call, was not taken: its reading or its word is needed next, or its record could
+-- not be written
+abbrev pub IsBeforeRequest : Ending → Need → Type 0
+IsBeforeRequest Whole (Turns left) = 0 < left
+IsBeforeRequest Whole (WordFor left now) = ⊤
+IsBeforeRequest Whole (Calls (call ∷ left)) = ⊤
+IsBeforeRequest Whole (CallWord call now left) = ⊤
+IsBeforeRequest (NoRecord (Tick now word) front) need = ⊤
+IsBeforeRequest (NoRecord (Resync now word flags) front) need = ⊤
+IsBeforeRequest _ _ = ⊥
 
 -- one call of one object failed, and no call of another one
 abbrev pub ClockFailed : Faults → Faults → Type 0
@@ -181,13 +185,19 @@ abbrev pub IsToDo : Event → Need → Type 0
 IsToDo event (Act outcome behind) = IsBehind event behind
 IsToDo event _ = ⊥
 
+-- no turn and no call is left
+abbrev pub IsOver : Need → Type 0
+IsOver (Turns zero) = ⊤
+IsOver (Calls []) = ⊤
+IsOver _ = ⊥
+
 -- Where a record could not be written, what its event led to was not done. Where a line could not, it was, and nothing was
--- asked for behind it but, in a round, a receipt. The closing lines come when all turns were taken.
+-- asked for behind it but, in a round, a receipt. A line that is no event's comes when no turn and no call is left.
 abbrev pub StopsAt : Ending → Need → Type 0
 StopsAt Whole need = ⊥
 StopsAt (NoRecord event front) need = IsToDo event need
 StopsAt (NoLine (Take event) front) need = IsBehind event need
-StopsAt (NoLine (Print line) front) need = need ≡ Turns 0
+StopsAt (NoLine (Print line) front) need = IsOver need
 
 -- What each answer says of the last deed, of what is needed next, and of the calls that failed: with a fault of a
 -- device that device failed once, at the call that was due, and with any other answer no call failed.

@@ -1,9 +1,11 @@
--- A whole run of so many turns: what its devices gave, the events that were woven of it, and what was done about them.
+-- A whole run, of so many turns or of calls that ask for requests: what its devices gave, the events that were woven of it,
+-- and what was done about them.
 use Rattle.std.specs.Prelude.{◌≡◌, ◌⊎◌, ◌≢◌, ℕ, ◌+◌, ◌-◌, ◌*◌, ◌/◌, ◌^◌, ◌<◌, ◌≤◌, ℤ, min, List, [], ◌∷◌, ◌++◌, length, map, reverse, take, flat_map, IfSome, ⊤}
 use Rattle.std.specs.List.{count_by}
 use Rattle.base_specs.specs.Counts.{FailsTimes}
 use Rattle.base_specs.specs.Told.{Added, Grew}
 use Rattle.line_text.specs.Text.{joined}
+use Rattle.edge_traits.specs.declared.link.Receipt.{Receipt}
 use Rattle.edge_traits.specs.declared.link.Tried.{Tried}
 use Rattle.edge_traits.specs.Clock.{Read, moves_among, readings_among}
 use Rattle.edge_traits.specs.Link.{LinkCall, failed_calls, receipts_among, sends_among}
@@ -28,9 +30,10 @@ use Rattle.time_machine.specs.Report.{line_of, report_of}
 use Rattle.run_deeds.specs.declared.life_end.LifeEnd.{LifeEnd}
 use Rattle.run_deeds.specs.declared.life_end.Why.{Why}
 use Rattle.run_deeds.specs.declared.life_end.Why.TheVariants.{Done, DiskFault, BadVersion, StampsSpent, SinkFault}
-use Rattle.run_deeds.specs.Weaving.{Stood, Need, Start, Turns, Act, Weaves, clock_calls, posted_of, ticks_by, turn_calls, turn_requests, weave}
+use Rattle.run_deeds.specs.ServiceWeaving.{service_weave}
+use Rattle.run_deeds.specs.Weaving.{Stood, Need, Start, Turns, Calls, Act, Weaves, clock_calls, posted_of, ticks_by, turn_calls, turn_requests, weave}
 use Rattle.run_deeds.specs.Deeds.{Ending, Whole, NoRecord, NoLine, Take, Print, missing_in, cut_record, reasons_by}
-use Rattle.run_deeds.specs.Devices.{Given, LifeEndsBy, IsBeforeTick, faults_of}
+use Rattle.run_deeds.specs.Devices.{Given, LifeEndsBy, IsBeforeRequest, faults_of}
 use Rattle.run_deeds.specs.Parts.{is_quiet}
 use Rattle.run_deeds.specs.Closing.{closing_lines, closing_by}
 use Rattle.run_deeds.specs.Marks.{IsDue, KeepsLoadable, MarksBeforeSends, blocks_of}
@@ -68,10 +71,10 @@ KeptBy StampsSpent stood events before entry exit =
 KeptBy DiskFault stood events before entry exit = (events ≡ []) ⊎ IsDue (life_at before)
 KeptBy _ stood events before entry exit = ⊤
 
--- One block more was begun than the Ticks of a life took: it was due, and the run ended before the Tick that asked for
--- it was taken, but not for want of marks.
+-- One block more was begun than the requests of a life took: it was due, and the run ended before the Tick or the Resync
+-- that asked for it was taken, but not for want of marks.
 abbrev pub BeganAnother : Why → Ending → Need → List Told → Type 0
-BeganAnother why ending need life = IsDue life × IsBeforeTick ending need × (why ≢ StampsSpent)
+BeganAnother why ending need life = IsDue life × IsBeforeRequest ending need × (why ≢ StampsSpent)
 
 -- the disk was called at most five times for each block that was begun in a life
 abbrev pub CallsForBlocks : Why → Ending → Need → List Told → (start end : ℕ) → Type 0
@@ -89,29 +92,39 @@ abbrev pub behind_act : Need → Need
 behind_act (Act outcome behind) = behind
 behind_act need = need
 
--- ---- A run, in four parts
+-- ---- What comes behind the Life, so many turns or these calls
+
+-- the events that what was given is woven into
+abbrev pub events_of : Conf → Stood → Need → List ℤ → List ℕ → List Receipt → List Event
+events_of conf stood (Turns turns) readings words receipts = weave stood readings words receipts
+events_of conf stood (Calls calls) readings words receipts = service_weave conf stood calls readings words receipts
+events_of conf stood _ readings words receipts = []
+
+-- what is needed when none of them is left
+abbrev pub need_over : Need → Need
+need_over (Turns turns) = Turns 0
+need_over (Calls calls) = Calls []
+need_over need = need
+
+-- ---- A run, in its parts
 
 -- What was woven: the calls of clock and link and the words drawn, each where it was needed, the events that they give,
 -- what there is of the last one, and what was needed next. All events but the one whose record could not be written
 -- were taken. The history is these, the last one first.
-pub record Woven (conf : Conf) (turns : ℕ) (stood : Stood) : Type 0 where
+pub record Woven (conf : Conf) (next : Need) (stood : Stood) : Type 0 where
   pub given : Given
   pub events : List Event
   pub ending : Ending
   pub need : Need
-  pub woven : events ++ missing_in ending ≡ weave stood (readings_among given.clock) given.words (receipts_among given.link)
-  pub weaves : Weaves conf (Start stood (Turns turns)) [] given.clock given.words given.link (events ++ missing_in ending) need
+  pub woven : events ++ missing_in ending ≡ events_of conf stood next (readings_among given.clock) given.words (receipts_among given.link)
+  pub weaves : Weaves conf (Start stood next) [] given.clock given.words given.link (events ++ missing_in ending) need
   pub grows : Grows conf (reverse events)
 
--- What the devices were asked for and given: requests, corrections, capture and report.
-pub record Effects (conf : Conf) {turns : ℕ} {stood : Stood} (w : Woven conf turns stood) (before now : Seen) (end : LifeEnd) : Type 0 where
-  -- The sends tried are the requests of the history. Turn by turn the request of the Tick is sent, and then the receipt
-  -- is taken.
+-- What the devices were asked for and given: requests, corrections and capture.
+pub record Effects (conf : Conf) {next : Need} {stood : Stood} (w : Woven conf next stood) (before now : Seen) : Type 0 where
+  -- the sends tried are the requests of the history
   pub link : Grew before.link now.link w.given.link
   pub requests : map posted_of (sends_among w.given.link) ≡ requests_of conf (reverse w.events)
-  pub by_turn : List (List Tried)
-  pub asked : map (map posted_of) by_turn ≡ turn_requests conf [] w.events
-  pub in_turn : w.given.link ≡ turn_calls by_turn (receipts_among w.given.link)
   -- The corrections made are those of the history, of which no two answer one request. Each is made right behind the
   -- reading of its event. Behind the last event there is one reading more at most, which is no taken event's.
   pub clock : Grew before.clock now.clock w.given.clock
@@ -125,22 +138,29 @@ pub record Effects (conf : Conf) {turns : ℕ} {stood : Stood} (w : Woven conf t
   pub record_bytes : List ℕ
   pub spells : SpellsEvents w.events record_bytes
   pub capture : Added before.capture now.capture (record_bytes ++ cut_record w.ending)
+
+-- What was sent turn by turn, and the report of a run of turns.
+pub record Turned (conf : Conf) {turns : ℕ} {stood : Stood} (w : Woven conf (Turns turns) stood) (before now : Seen) (end : LifeEnd) : Type 0 where
+  -- turn by turn the request of the Tick is sent, and then the receipt is taken
+  pub by_turn : List (List Tried)
+  pub asked : map (map posted_of) by_turn ≡ turn_requests conf [] w.events
+  pub in_turn : w.given.link ≡ turn_calls by_turn (receipts_among w.given.link)
   -- the report
   pub text : List ℕ
   pub reports : Reports conf (reverse w.events) end w.ending w.need text
   pub out : Added before.written now.written text
 
 -- Why the run ended, and what it came to: exactly one call failed, or none, but for those of the link.
-pub record Ended (conf : Conf) {turns : ℕ} {stood : Stood} (w : Woven conf turns stood) (before now : Seen) (end : LifeEnd) : Type 0 where
+pub record Ended (conf : Conf) {next : Need} {stood : Stood} (w : Woven conf next stood) (before now : Seen) (end : LifeEnd) : Type 0 where
   pub ends : LifeEndsBy end.why w.ending w.need (faults_of before) (faults_of now)
   pub link_failed : FailsTimes (failed_calls w.given.link) before.link_faults now.link_faults
-  pub well : end.why ≡ Done → w.need ≡ Turns 0
-  -- where the record or the line of the Life could not be written, the first turn is needed next
-  pub life_last : end.why ≡ SinkFault → (now : ℤ) → w.events ++ missing_in w.ending ≡ Life now stood.mark ∷ [] → behind_act w.need ≡ Turns turns
+  pub well : end.why ≡ Done → w.need ≡ need_over next
+  -- where the record or the line of the Life could not be written, the first turn or call is needed next
+  pub life_last : end.why ≡ SinkFault → (now : ℤ) → w.events ++ missing_in w.ending ≡ Life now stood.mark ∷ [] → behind_act w.need ≡ next
   pub totals : Totals conf w.events w.given.link end
 
 -- What the disk was called for, and what it stands for.
-pub record Kept (conf : Conf) {turns : ℕ} {stood : Stood} (w : Woven conf turns stood) (entry exit : DiskTold) (why : Why) : Type 0 where
+pub record Kept (conf : Conf) {next : Need} {stood : Stood} (w : Woven conf next stood) (entry exit : DiskTold) (why : Why) : Type 0 where
   pub kept : KeptBy why stood w.events (told conf (reverse w.events)) entry exit
   -- a load doesn't refuse the disk where an event was taken, and where the answer is none of the disk
   pub loadable : (w.events ≢ []) ⊎ ((why ≢ BadVersion) × (why ≢ DiskFault)) → IfSome entry.content IsLoadable
@@ -163,11 +183,12 @@ pub record Kept (conf : Conf) {turns : ℕ} {stood : Stood} (w : Woven conf turn
   -- the mark at the end
   pub reserved : why ≡ Done → IfSome exit.content (λ c. mark_of_image c ≡ stood.mark + 64 * blocks_of (life_at (told conf (reverse w.events))))
 
--- a run: what the disk's content stood for at entry, and the four parts
+-- a run of so many turns: what the disk's content stood for at entry, and the parts
 pub record Lives (conf : Conf) (turns : ℕ) (entry exit : DiskTold) (before now : Seen) (end : LifeEnd) : Type 0 where
   pub stood : Stood
   pub stood_for : IfSome entry.content (λ c. stood.mark ≡ mark_of_image c)
-  pub woven : Woven conf turns stood
-  pub effects : Effects conf woven before now end
+  pub woven : Woven conf (Turns turns) stood
+  pub effects : Effects conf woven before now
+  pub turned : Turned conf woven before now end
   pub ended : Ended conf woven before now end
   pub kept : Kept conf woven entry exit end.why

@@ -114,8 +114,8 @@ verdict_on conf now bytes (Some r) =
     else verdict_by_times conf.limits now r (ticks_of (receive_of bytes) now) (ticks_of (transmit_of bytes) now)
 
 -- The first reason that applies, or the correction. A new reason also changes `Reason` of src/outcome.rt, `IsRight` of
--- Laws.antt, `reason_text` of Report.antt, and After, Answered and Earlier of proofs/. In `sntp_core` it changes the
--- same verdict on a message that was read, specs/Packets.antt, and src/arriving.rt, src/report.rt and the tests' rows.
+-- Laws.antt (and `IsLookedUp`, if asked before NoRequest), `reason_text` of Report.antt, and After, Answered and Earlier of
+-- proofs/; in `sntp_core` the same verdict on a read message, specs/Packets.antt, src/arriving.rt, src/report.rt and tests' rows.
 abbrev pub verdict_at : Conf → Words → ℤ → Addr → List ℕ → Outcome
 verdict_at conf w now from bytes =
     if is_bad_length conf.kind bytes then Refused BadLength
