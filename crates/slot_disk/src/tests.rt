@@ -1,11 +1,18 @@
 use crate::{Disk, FileDisk, FuseDisk, MemoryDisk, Put};
 use std::alloc::Global;
+use std::fmt::Debug;
 use std::fs;
+use std::process::Abort;
 use std::test::Fail;
 
 const FOLDER: &str = "slot_disk_test";
 
 const PATH: &str = "slot_disk_test/keeper";
+
+/// Both values are the same in this case. As a function it is proved once, where `assert_eq!` would be at each place.
+fn same<T: PartialEq + Debug, C: Debug>(rt: &impl Abort, got: &T, want: &T, case: &C) {
+    assert_eq!(rt; *got, *want, "{case:?}");
+}
 
 /// A call of a disk.
 #[derive(Clone, Copy, Debug)]
@@ -45,22 +52,32 @@ fn seen_at(disk: &MemoryDisk, at: u8) -> [bool; 3] {
     seen
 }
 
+/// A call and its answer; then the first two bytes, and what the first may be after a crash.
+type Torn = (Call, Put, [u8; 2], [bool; 3]);
+
 // Calls 3 and 5 fail, and the room ends after call 6.
+const TORN: &[Torn] = &[
+    (Call::Read, Put::Done, [0, 0], [true, false, false]),
+    (Call::Write(0, 1), Put::Done, [1, 0], [true, true, true]),
+    (Call::Write(1, 1), Put::Failed, [1, 0], [true, true, true]),
+    (Call::Sync, Put::Done, [1, 0], [false, true, false]),
+    (Call::Sync, Put::Failed, [1, 0], [false, true, false]),
+    (Call::Write(1, 9), Put::Done, [1, 9], [false, true, false]),
+    (Call::Write(0, 9), Put::Failed, [1, 9], [false, true, false]),
+];
+
+fn expect_torn(rt: &impl Abort, row: &Torn, disk: &mut MemoryDisk) {
+    let (call, put, content, seen) = *row;
+    same(rt, &make(disk, call), &put, &call);
+    same(rt, &&disk.content()[..2], &content.as_slice(), &call);
+    same(rt, &seen_at(disk, 0), &seen, &call);
+}
+
 #[test]
 fn tears_what_is_not_synced(rt: HostRuntime) -> Result<(), Fail> {
     let mut disk = zero_disk(rt.alloc(), &[3, 5])?;
-    for (call, put, content, seen) in [
-        (Call::Read, Put::Done, [0, 0], [true, false, false]),
-        (Call::Write(0, 1), Put::Done, [1, 0], [true, true, true]),
-        (Call::Write(1, 1), Put::Failed, [1, 0], [true, true, true]),
-        (Call::Sync, Put::Done, [1, 0], [false, true, false]),
-        (Call::Sync, Put::Failed, [1, 0], [false, true, false]),
-        (Call::Write(1, 9), Put::Done, [1, 9], [false, true, false]),
-        (Call::Write(0, 9), Put::Failed, [1, 9], [false, true, false]),
-    ] {
-        assert_eq!(rt; make(&mut disk, call), put, "{call:?}");
-        assert_eq!(rt; &disk.content()[..2], content.as_slice(), "{call:?}");
-        assert_eq!(rt; seen_at(&disk, 0), seen, "{call:?}");
+    for row in TORN {
+        expect_torn(&rt, row, &mut disk);
     }
     Ok(())
 }
@@ -69,33 +86,45 @@ fn tears_what_is_not_synced(rt: HostRuntime) -> Result<(), Fail> {
 #[test]
 fn tears_each_byte_of_a_write(rt: HostRuntime) -> Result<(), Fail> {
     let mut disk = zero_disk(rt.alloc(), &[2])?;
-    assert_eq!(rt; disk.write_at(0, &[1; 256]), Put::Done);
-    assert_eq!(rt; disk.write_at(0, &[9; 256]), Put::Failed);
-    assert_eq!(rt; disk.content(), &[1; 256]);
+    same(&rt, &disk.write_at(0, &[1; 256]), &Put::Done, &());
+    same(&rt, &disk.write_at(0, &[9; 256]), &Put::Failed, &());
+    same(&rt, disk.content(), &[1; 256], &());
     for at in [0, 1, 127, 128, 254, 255] {
-        assert_eq!(rt; seen_at(&disk, at), [true; 3], "at {at}");
+        same(&rt, &seen_at(&disk, at), &[true; 3], &at);
     }
     Ok(())
 }
 
+/// A zero disk of which the first call fails, and the fuse blows at the third.
+fn fused(alloc: Global) -> Result<FuseDisk, Fail> {
+    let disk = zero_disk(alloc, &[1])?;
+    match FuseDisk::new(alloc, disk, 2) {
+        Ok(fuse) => Ok(fuse),
+        Err(_) => Err(Fail::from("no memory")),
+    }
+}
+
+const FUSED: &[(Call, Put)] = &[
+    (Call::Sync, Put::Failed),
+    (Call::Write(0, 1), Put::Done),
+    (Call::Write(1, 1), Put::Failed),
+    (Call::Sync, Put::Failed),
+    (Call::Read, Put::Failed),
+];
+
+fn expect_blown(rt: &impl Abort, disk: &MemoryDisk) {
+    same(rt, &&disk.content()[..3], &[1, 0, 0].as_slice(), &());
+    same(rt, &seen_at(disk, 1), &[true, false, true], &());
+    same(rt, &seen_at(disk, 2), &[true, false, false], &());
+}
+
 #[test]
 fn stops_when_the_fuse_has_blown(rt: HostRuntime) -> Result<(), Fail> {
-    let disk = zero_disk(rt.alloc(), &[1])?;
-    let Ok(mut fuse) = FuseDisk::new(rt.alloc(), disk, 2) else {
-        return Err(Fail::from("no memory"));
-    };
-    for (call, put) in [
-        (Call::Sync, Put::Failed),
-        (Call::Write(0, 1), Put::Done),
-        (Call::Write(1, 1), Put::Failed),
-        (Call::Sync, Put::Failed),
-        (Call::Read, Put::Failed),
-    ] {
-        assert_eq!(rt; make(&mut fuse, call), put, "{call:?}");
+    let mut fuse = fused(rt.alloc())?;
+    for (call, put) in FUSED {
+        same(&rt, &make(&mut fuse, *call), put, call);
     }
-    assert_eq!(rt; &fuse.disk().content()[..3], [1, 0, 0].as_slice());
-    assert_eq!(rt; seen_at(fuse.disk(), 1), [true, false, true]);
-    assert_eq!(rt; seen_at(fuse.disk(), 2), [true, false, false]);
+    expect_blown(&rt, fuse.disk());
     Ok(())
 }
 
@@ -156,22 +185,50 @@ fn with_pieces(first: u8, rest: u8) -> [u8; 256] {
     image
 }
 
+// How many bytes there are before; then the bytes 3 and 4, and all others. A missing file is created, and a shorter one
+// filled.
+const BEFORE: &[(usize, u8, u8)] = &[(0, 0, 0), (5, 3, 0), (256, 3, 3)];
+
+/// A new folder.
+fn make_folder(rt: &HostRuntime, folder: &str) -> Result<(), Fail> {
+    let _ = fs::remove_dir_all(rt, folder);
+    fs::create_dir(rt, folder)?;
+    Ok(())
+}
+
+/// A file that has this content.
+fn expect_file(
+    rt: &impl Abort,
+    files: &HostRuntime,
+    path: &str,
+    content: &[u8],
+) -> Result<(), Fail> {
+    let bytes = fs::read(files, path)?;
+    same(rt, &bytes.as_slice(), &content, &path);
+    Ok(())
+}
+
+fn expect_pieces(
+    rt: &impl Abort,
+    files: &HostRuntime,
+    before: usize,
+    want: [u8; 256],
+) -> Result<(), Fail> {
+    if before > 0 {
+        fs::write(files, PATH, &[3u8; 256][..before.min(256)])?;
+    }
+    let done = ([Put::Done; 5], Put::Done);
+    let (image, puts, read) = written(files);
+    same(rt, &image, &want, &before);
+    same(rt, &(puts, read), &done, &before);
+    expect_file(rt, files, PATH, &want)
+}
+
 #[test]
 fn keeps_its_bytes_in_a_file(rt: HostRuntime) -> Result<(), Fail> {
-    let _ = fs::remove_dir_all(&rt, FOLDER);
-    fs::create_dir(&rt, FOLDER)?;
-    // A missing file is created, and a shorter one filled.
-    for (before, first, rest) in [(0, 0, 0), (5, 3, 0), (256, 3, 3)] {
-        if before > 0 {
-            fs::write(&rt, PATH, &[3u8; 256][..before])?;
-        }
-        let want = with_pieces(first, rest);
-        assert_eq!(rt; written(&rt), (want, [Put::Done; 5], Put::Done), "{before}");
-        assert_eq!(rt;
-            fs::read(&rt, PATH)?.as_slice(),
-            want.as_slice(),
-            "{before}"
-        );
+    make_folder(&rt, FOLDER)?;
+    for (before, first, rest) in BEFORE {
+        expect_pieces(&rt, &rt, *before, with_pieces(*first, *rest))?;
     }
     fs::remove_dir_all(&rt, FOLDER)?;
     Ok(())
@@ -186,64 +243,89 @@ fn three_calls(mut disk: FileDisk) -> [Put; 3] {
     ]
 }
 
+/// A path gives no disk, for this reason.
+fn expect_reason(rt: &impl Abort, files: &HostRuntime, path: &str, want: &str) -> Result<(), Fail> {
+    let reason = reason_at(files, path)?;
+    same(rt, &reason.as_str(), &want, &path);
+    Ok(())
+}
+
+const LONG: &str = "slot_disk_long/disk";
+
+fn expect_left(rt: &impl Abort, files: &HostRuntime, content: &[u8]) -> Result<(), Fail> {
+    fs::write(files, LONG, content)?;
+    let puts = three_calls(disk_at(files, LONG));
+    same(rt, &puts, &[Put::Failed; 3], &content.len());
+    expect_file(rt, files, LONG, content)?;
+    expect_reason(rt, files, LONG, "longer than 256 bytes")
+}
+
 #[test]
 fn a_longer_file_is_left_as_it_is(rt: HostRuntime) -> Result<(), Fail> {
-    let _ = fs::remove_dir_all(&rt, "slot_disk_long");
-    fs::create_dir(&rt, "slot_disk_long")?;
-    for len in [257, 300] {
-        let content = &[3u8; 300][..len];
-        fs::write(&rt, "slot_disk_long/disk", content)?;
-        let puts = three_calls(disk_at(&rt, "slot_disk_long/disk"));
-        let bytes = fs::read(&rt, "slot_disk_long/disk")?;
-        assert_eq!(rt; (puts, bytes.as_slice()), ([Put::Failed; 3], content));
-        let reason = reason_at(&rt, "slot_disk_long/disk")?;
-        assert_eq!(rt; reason.as_str(), "longer than 256 bytes");
-    }
+    make_folder(&rt, "slot_disk_long")?;
+    expect_left(&rt, &rt, &[3; 257])?;
+    expect_left(&rt, &rt, &[3; 300])?;
     fs::remove_dir_all(&rt, "slot_disk_long")?;
+    Ok(())
+}
+
+const LOCKED: &str = "slot_disk_lock/disk";
+
+// The second disk is none while the first has the file. A later one has it again.
+fn expect_lock(rt: &impl Abort, files: &HostRuntime) -> Result<(), Fail> {
+    let first = disk_at(files, LOCKED);
+    let second = three_calls(disk_at(files, LOCKED));
+    expect_reason(rt, files, LOCKED, "locked by another process")?;
+    same(rt, &second, &[Put::Failed; 3], &());
+    same(rt, &three_calls(first), &[Put::Done; 3], &());
+    let later = three_calls(disk_at(files, LOCKED));
+    same(rt, &later, &[Put::Done; 3], &());
     Ok(())
 }
 
 #[test]
 fn a_file_has_one_disk_at_a_time(rt: HostRuntime) -> Result<(), Fail> {
-    let _ = fs::remove_dir_all(&rt, "slot_disk_lock");
-    fs::create_dir(&rt, "slot_disk_lock")?;
-    let first = disk_at(&rt, "slot_disk_lock/disk");
-    let second = three_calls(disk_at(&rt, "slot_disk_lock/disk"));
-    let reason = reason_at(&rt, "slot_disk_lock/disk")?;
-    assert_eq!(rt; reason.as_str(), "locked by another process");
-    let puts = (second, three_calls(first));
-    assert_eq!(rt; puts, ([Put::Failed; 3], [Put::Done; 3]));
-    let later = three_calls(disk_at(&rt, "slot_disk_lock/disk"));
-    assert_eq!(rt; later, [Put::Done; 3]);
+    make_folder(&rt, "slot_disk_lock")?;
+    expect_lock(&rt, &rt)?;
     fs::remove_dir_all(&rt, "slot_disk_lock")?;
     Ok(())
 }
 
+// A folder can't be opened for writing, and the other is no regular file.
+const NO_FILES: &[(&str, &str)] = &[
+    ("/", "Is a directory (os error 21)"),
+    ("/dev/null", "not a regular file"),
+];
+
 #[test]
 fn what_is_no_file_is_no_disk(rt: HostRuntime) -> Result<(), Fail> {
-    // A folder can't be opened for writing, and the other is no regular file.
-    for (path, want) in [
-        ("/", "Is a directory (os error 21)"),
-        ("/dev/null", "not a regular file"),
-    ] {
-        assert_eq!(rt; three_calls(disk_at(&rt, path)), [Put::Failed; 3], "{path}");
-        assert_eq!(rt; reason_at(&rt, path)?.as_str(), want, "{path}");
+    for (path, want) in NO_FILES {
+        let puts = three_calls(disk_at(&rt, path));
+        same(&rt, &puts, &[Put::Failed; 3], path);
+        expect_reason(&rt, &rt, path, want)?;
     }
-    assert_eq!(rt; three_calls(FileDisk::without_file()), [Put::Failed; 3]);
+    let puts = three_calls(FileDisk::without_file());
+    same(&rt, &puts, &[Put::Failed; 3], &());
+    Ok(())
+}
+
+const SHORT: &str = "slot_disk_short/disk";
+
+// It can be read whole before anything was written to it.
+fn expect_filled(rt: &impl Abort, files: &HostRuntime) -> Result<(), Fail> {
+    fs::write(files, SHORT, &[3u8; 5])?;
+    let mut disk = disk_at(files, SHORT);
+    same(rt, &make(&mut disk, Call::Read), &Put::Done, &());
+    let bytes = fs::read(files, SHORT)?;
+    let ends = (bytes.len(), bytes.get(4), bytes.get(5), bytes.last());
+    same(rt, &ends, &(256, Some(&3), Some(&0), Some(&0)), &());
     Ok(())
 }
 
 #[test]
 fn a_short_file_is_filled(rt: HostRuntime) -> Result<(), Fail> {
-    let _ = fs::remove_dir_all(&rt, "slot_disk_short");
-    fs::create_dir(&rt, "slot_disk_short")?;
-    fs::write(&rt, "slot_disk_short/disk", &[3u8; 5])?;
-    // It can be read whole before anything was written to it.
-    let mut disk = disk_at(&rt, "slot_disk_short/disk");
-    assert_eq!(rt; make(&mut disk, Call::Read), Put::Done);
-    let bytes = fs::read(&rt, "slot_disk_short/disk")?;
-    let ends = (bytes.len(), bytes.get(4), bytes.get(5), bytes.last());
-    assert_eq!(rt; ends, (256, Some(&3), Some(&0), Some(&0)));
+    make_folder(&rt, "slot_disk_short")?;
+    expect_filled(&rt, &rt)?;
     fs::remove_dir_all(&rt, "slot_disk_short")?;
     Ok(())
 }

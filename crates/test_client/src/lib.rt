@@ -1,4 +1,4 @@
-//! Calls of a remote computer, over sessions in memory. Tests alone: nothing here is shipped.
+//! Calls to a remote computer, over sessions in memory. Tests alone: nothing here is shipped.
 //!
 //! `bytes.rt` has what a client writes and what it is sent; `calls.rt` makes each call over each reply, and lets each call on
 //! the wire fail.

@@ -5,13 +5,15 @@ ghost use Rattle.edge_io.specs.LinkScript.{IsNoFailure};
 ghost use Rattle.slot_disk.specs.Memory.{memory_tells};
 ghost use Rattle.member_run.specs.Running.{IsGoing};
 
+use crate::asserts::same;
 use crate::lives::{
-    FIRST, Failing, Object, Objects, R0, REPLY, TURN, conf_of, failure_of, objects_of,
-    readings_among,
+    FIRST, Failing, Object, Objects, R0, REPLY, Ran, TURN, conf_of, failure_of, objects_of,
+    readings_among, take_turns,
 };
 use edge_io::{Datagram, Move, Receipt};
-use member_run::{Running, Why, live};
+use member_run::{Running, Why};
 use std::alloc::{AllocError, Global};
+use std::process::Abort;
 use std::test::Fail;
 
 /// The readings of three calls: one for the Life, one a call, and one behind the last.
@@ -61,66 +63,79 @@ pub(crate) fn start(alloc: Global, objects: &mut Objects) -> Result<Running, Fai
     ))
 }
 
+/// What a call with these words answers.
+pub(crate) fn answer_of(
+    run: &mut Running,
+    wait: u32,
+    flags: u32,
+    objects: &mut Objects,
+) -> Result<u32, Why>
+    requires { IsGoing (memory_tells objects.old.disk) run.old }
+    ensures { OnOk result (IsGoing (memory_tells objects.new.disk) run.new) }
+{
+    run.resync(
+        wait,
+        flags,
+        &mut objects.link,
+        &mut objects.clock,
+        &mut objects.disk,
+        &mut objects.entropy,
+        &mut objects.out,
+        &mut objects.capture,
+    )
+}
+
 /// A call that asks for the result of its round.
 pub(crate) fn resync(run: &mut Running, wait: u32, objects: &mut Objects) -> Result<u32, Fail>
     requires { IsGoing (memory_tells objects.old.disk) run.old }
     ensures { OnOk result (IsGoing (memory_tells objects.new.disk) run.new) }
 {
-    answered(run.resync(
-        wait,
-        2,
-        &mut objects.link,
-        &mut objects.clock,
-        &mut objects.disk,
-        &mut objects.entropy,
-        &mut objects.out,
-        &mut objects.capture,
-    ))
+    answered(answer_of(run, wait, 2, objects))
+}
+
+/// The objects of three calls, with these failing calls.
+fn call_objects(alloc: Global, fails: Failing) -> Result<Objects, Fail> {
+    let receipts = call_receipts(alloc)?;
+    let readings = call_readings(alloc)?;
+    objects_of(alloc, receipts, readings, fails)
 }
 
 // A request alone, a round in which nothing comes, and one whose reply is accepted.
-#[test]
-fn calls_of_a_run(rt: HostRuntime) -> Result<(), Fail> {
-    let receipts = call_receipts(rt.alloc())?;
-    let readings = call_readings(rt.alloc())?;
-    let mut objects = objects_of(rt.alloc(), receipts, readings, Failing::default())?;
-    let mut run = start(rt.alloc(), &mut objects)?;
-    let alone = resync(&mut run, 0, &mut objects)?;
-    let quiet = resync(&mut run, 1, &mut objects)?;
-    let moved = resync(&mut run, 1, &mut objects)?;
-    assert_eq!(rt;
-        (alone, quiet, moved, run.source(), run.totals().sent),
-        (0, 1, 0, Some(0), 3)
-    );
-    assert_eq!(rt; objects.clock.moves(), [Move::Slew(29_000_000)].as_slice());
+fn expect_calls(rt: &impl Abort, run: &mut Running, objects: &mut Objects) -> Result<(), Fail>
+    requires { IsGoing (memory_tells objects.old.disk) run.old }
+{
+    let alone = resync(run, 0, objects)?;
+    let quiet = resync(run, 1, objects)?;
+    let moved = resync(run, 1, objects)?;
+    same(rt, &(alone, quiet, moved), &(0, 1, 0), &());
+    same(rt, &(run.source(), run.totals().sent), &(Some(0), 3), &());
+    let moves = [Move::Slew(29_000_000)];
+    same(rt, &objects.clock.moves(), &moves.as_slice(), &());
     Ok(())
 }
 
+#[test]
+fn calls_of_a_run(rt: HostRuntime) -> Result<(), Fail> {
+    let mut objects = call_objects(rt.alloc(), Failing::default())?;
+    let mut run = start(rt.alloc(), &mut objects)?;
+    expect_calls(&rt, &mut run, &mut objects)
+}
+
 // A call whose line can't be written ends there: its request was sent, and nothing was received.
+fn expect_line_fault(rt: &impl Abort, run: &mut Running, objects: &mut Objects)
+    requires { IsGoing (memory_tells objects.old.disk) run.old }
+{
+    let answer = answer_of(run, 1, 2, objects);
+    same(rt, &answer, &Err(Why::SinkFault), &());
+    let sends = objects.link.sends().len();
+    same(rt, &(sends, objects.link.calls().len()), &(1, 1), &());
+}
+
 #[test]
 fn a_call_whose_line_fails(rt: HostRuntime) -> Result<(), Fail> {
-    let receipts = call_receipts(rt.alloc())?;
-    let readings = call_readings(rt.alloc())?;
-    let mut objects = objects_of(rt.alloc(), receipts, readings, failure_of(Object::Out, 2))?;
+    let mut objects = call_objects(rt.alloc(), failure_of(Object::Out, 2))?;
     let mut run = start(rt.alloc(), &mut objects)?;
-    let answer = run.resync(
-        1,
-        2,
-        &mut objects.link,
-        &mut objects.clock,
-        &mut objects.disk,
-        &mut objects.entropy,
-        &mut objects.out,
-        &mut objects.capture,
-    );
-    assert_eq!(rt;
-        (
-            matches!(answer, Err(Why::SinkFault)),
-            objects.link.sends().len(),
-            objects.link.calls().len()
-        ),
-        (true, 1, 1)
-    );
+    expect_line_fault(&rt, &mut run, &mut objects);
     Ok(())
 }
 
@@ -145,29 +160,21 @@ fn step_receipts(alloc: Global) -> Result<Vec<Receipt>, AllocError>
     Ok(receipts)
 }
 
+/// A run of two turns, with these replies.
+fn run_stepped(alloc: Global) -> Result<Ran, Fail> {
+    let readings = readings_among(alloc, STEP_TIMES)?;
+    let receipts = step_receipts(alloc)?;
+    let conf = conf_of(alloc)?;
+    let objects = objects_of(alloc, receipts, readings, Failing::default())?;
+    Ok(take_turns(conf, 2, objects))
+}
+
 // The second Tick is before the moment to which the step moved the clock, and sends at once.
 #[test]
 fn a_step_and_the_next_tick(rt: HostRuntime) -> Result<(), Fail> {
-    let readings = readings_among(rt.alloc(), STEP_TIMES)?;
-    let receipts = step_receipts(rt.alloc())?;
-    let mut objects = objects_of(rt.alloc(), receipts, readings, Failing::default())?;
-    let end = live(
-        conf_of(rt.alloc())?,
-        2,
-        &mut objects.link,
-        &mut objects.clock,
-        &mut objects.disk,
-        &mut objects.entropy,
-        &mut objects.out,
-        &mut objects.capture,
-    );
-    assert_eq!(rt;
-        (end.why, end.sent, objects.clock.moves()),
-        (
-            Why::Done,
-            2,
-            [Move::Step(35_999_000_000), Move::Slew(9_000_000)].as_slice()
-        )
-    );
+    let ran = run_stepped(rt.alloc())?;
+    same(&rt, &(ran.end.why, ran.end.sent), &(Why::Done, 2), &());
+    let moves = [Move::Step(35_999_000_000), Move::Slew(9_000_000)];
+    same(&rt, &ran.objects.clock.moves(), &moves.as_slice(), &());
     Ok(())
 }

@@ -3,10 +3,10 @@ ghost use Rattle.std.specs.Prelude.{All, IfOk};
 ghost use Rattle.base_specs.specs.Time.{IsReading};
 ghost use Rattle.edge_io.specs.LinkScript.{IsNoFailure};
 
-use crate::lives::{conf_of, readings_among};
-use edge_io::{Addr, Datagram, Move, Receipt, ScriptClock, ScriptEntropy, ScriptLink, ScriptSink};
-use member_run::{LifeEnd, Why, live};
-use slot_disk::MemoryDisk;
+use crate::asserts::same;
+use crate::lives::{Failing, Ran, conf_of, objects_of, readings_among, take_turns};
+use edge_io::{Addr, Datagram, Move, Receipt};
+use member_run::Why;
 use std::alloc::{AllocError, Global};
 use std::process::Abort;
 use std::test::Fail;
@@ -169,75 +169,13 @@ fn readings_of(alloc: Global) -> Result<Vec<i64>, AllocError>
     readings_among(alloc, &readings)
 }
 
-/// The devices behind a run.
-#[derive(Drop)]
-struct Devices {
-    link: ScriptLink,
-    clock: ScriptClock,
-    disk: MemoryDisk,
-    entropy: ScriptEntropy,
-    out: ScriptSink,
-    capture: ScriptSink,
-}
-
-fn link_of(alloc: Global, bit: u8) -> Result<ScriptLink, Fail> {
+/// How a run ended in which this bit is turned, and the objects behind it.
+fn run(alloc: Global, bit: u8) -> Result<Ran, Fail> {
     let receipts = receipts_of(alloc, bit)?;
-    let link = ScriptLink::new(alloc, receipts, Vec::new(alloc), 80)?;
-    Ok(link)
-}
-
-fn clock_of(alloc: Global) -> Result<ScriptClock, Fail> {
     let readings = readings_of(alloc)?;
-    let clock = ScriptClock::new(alloc, readings, Vec::new(alloc), 2)?;
-    Ok(clock)
-}
-
-fn disk_of(alloc: Global) -> Result<MemoryDisk, Fail> {
-    let disk = MemoryDisk::new(alloc, [0; 256], Vec::new(alloc), 64)?;
-    Ok(disk)
-}
-
-fn entropy_of(alloc: Global) -> Result<ScriptEntropy, Fail> {
-    let words = [1; 71].to_vec(alloc)?;
-    let entropy = ScriptEntropy::new(alloc, words, Vec::new(alloc), 0)?;
-    Ok(entropy)
-}
-
-fn sink_of(alloc: Global) -> Result<ScriptSink, Fail> {
-    let sink = ScriptSink::new(alloc, Vec::new(alloc), 8_000)?;
-    Ok(sink)
-}
-
-fn devices_of(alloc: Global, bit: u8) -> Result<Devices, Fail> {
-    let link = link_of(alloc, bit)?;
-    let clock = clock_of(alloc)?;
-    let disk = disk_of(alloc)?;
-    let entropy = entropy_of(alloc)?;
-    let out = sink_of(alloc)?;
-    let capture = sink_of(alloc)?;
-    Ok(Devices {
-        link,
-        clock,
-        disk,
-        entropy,
-        out,
-        capture,
-    })
-}
-
-fn run(alloc: Global, devices: &mut Devices) -> Result<LifeEnd, Fail> {
     let conf = conf_of(alloc)?;
-    let end = live(
-        conf,
-        TURNS,
-        &mut devices.link,
-        &mut devices.clock,
-        &mut devices.disk,
-        &mut devices.entropy,
-        &mut devices.out,
-        &mut devices.capture,
-    );
-    Ok(end)
+    let objects = objects_of(alloc, receipts, readings, Failing::default())?;
+    Ok(take_turns(conf, TURNS, objects))
 }
 
 pub(crate) fn add_times(text: &mut Vec<u8>, times: u32, line: &str) -> Result<(), AllocError> {
@@ -258,29 +196,22 @@ fn report_of(alloc: Global, lines: &[(u32, &'static str)]) -> Result<Vec<u8>, Al
     Ok(text)
 }
 
-fn expect_moved_once(rt: &impl Abort, bit: u8, report: &[u8], devices: &Devices) {
-    assert_eq!(rt; devices.out.bytes(), report, "bit {bit}");
-    assert_eq!(rt;
-        (devices.clock.moves(), devices.link.sends().len()),
-        ([Move::Slew(29_000_000)].as_slice(), 1),
-        "bit {bit}"
-    );
-}
-
-/// A run in which this bit is turned prints this, and moves the clock once.
-fn expect_report(rt: &impl Abort, alloc: Global, bit: u8, report: &[u8]) -> Result<(), Fail> {
-    let mut devices = devices_of(alloc, bit)?;
-    let end = run(alloc, &mut devices)?;
-    assert_eq!(rt; (end.why, end.moved, end.refused), (Why::Done, 1, 70));
-    expect_moved_once(rt, bit, report, &devices);
-    Ok(())
+/// The run prints this, and moves the clock once.
+fn expect_moved_once(rt: &impl Abort, bit: u8, report: &[u8], ran: &Ran) {
+    let got = (ran.end.why, ran.end.moved, ran.end.refused);
+    same(rt, &got, &(Why::Done, 1, 70), &bit);
+    same(rt, &ran.objects.out.bytes(), &report, &bit);
+    let moves = [Move::Slew(29_000_000)];
+    same(rt, &ran.objects.clock.moves(), &moves.as_slice(), &bit);
+    same(rt, &ran.objects.link.sends().len(), &1, &bit);
 }
 
 fn expect_row(rt: &impl Abort, alloc: Global, row: &Row) -> Result<(), Fail> {
     let (bits, lines) = *row;
     let report = report_of(alloc, lines)?;
     for bit in bits {
-        expect_report(rt, alloc, *bit, report.as_slice())?;
+        let ran = run(alloc, *bit)?;
+        expect_moved_once(rt, *bit, &report, &ran);
     }
     Ok(())
 }

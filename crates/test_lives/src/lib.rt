@@ -11,6 +11,8 @@
 #![tactic(auto)]
 
 #[cfg(test)]
+mod asserts;
+#[cfg(test)]
 mod calls;
 #[cfg(test)]
 mod hostile;

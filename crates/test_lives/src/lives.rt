@@ -3,6 +3,7 @@ ghost use Rattle.std.specs.Prelude.{◌≤◌, ◌≤ℤ◌, All, IfOk, pos};
 ghost use Rattle.base_specs.specs.Time.{IsReading};
 ghost use Rattle.edge_io.specs.LinkScript.{IsNoFailure};
 
+use crate::asserts::same;
 use edge_io::{Addr, Datagram, Move, Receipt, ScriptClock, ScriptEntropy, ScriptLink, ScriptSink};
 use key_book::Account;
 use member_run::{LifeEnd, Why, live};
@@ -97,9 +98,9 @@ pub(crate) struct Objects {
 
 /// How a run ended, and the objects behind it.
 #[derive(Drop)]
-struct Ran {
-    end: LifeEnd,
-    objects: Objects,
+pub(crate) struct Ran {
+    pub end: LifeEnd,
+    pub objects: Objects,
 }
 
 /// The member WS1, whose ranked partners are 10.0.0.2, 10.0.0.1 and 10.0.0.3, with the limits that it has by default.
@@ -186,7 +187,7 @@ pub(crate) fn receipts_of(alloc: Global) -> Result<Vec<Receipt>, AllocError>
 fn link_of(alloc: Global, receipts: Vec<Receipt>, call: u64) -> Result<ScriptLink, Fail>
     requires { All IsNoFailure receipts.items }
 {
-    let link = ScriptLink::new(alloc, receipts, [call].to_vec(alloc)?, 32)?;
+    let link = ScriptLink::new(alloc, receipts, [call].to_vec(alloc)?, 80)?;
     Ok(link)
 }
 
@@ -204,10 +205,10 @@ fn disk_of(alloc: Global, call: u64) -> Result<MemoryDisk, Fail> {
     Ok(disk)
 }
 
-/// An entropy that draws 1 to 20, of which this call fails.
+/// An entropy that draws 1 to 71, of which this call fails.
 fn entropy_of(alloc: Global, call: u64) -> Result<ScriptEntropy, Fail> {
     let mut words = Vec::new(alloc);
-    for word in 1..21 {
+    for word in 1..72 {
         words.push(word)?;
     }
     let entropy = ScriptEntropy::new(alloc, words, [call].to_vec(alloc)?, 0)?;
@@ -215,7 +216,7 @@ fn entropy_of(alloc: Global, call: u64) -> Result<ScriptEntropy, Fail> {
 }
 
 fn sink_of(alloc: Global, call: u64) -> Result<ScriptSink, Fail> {
-    let sink = ScriptSink::new(alloc, [call].to_vec(alloc)?, 1_000)?;
+    let sink = ScriptSink::new(alloc, [call].to_vec(alloc)?, 8_000)?;
     Ok(sink)
 }
 
@@ -245,13 +246,8 @@ pub(crate) fn objects_of(
     })
 }
 
-/// So many turns over these receipts, with these failing calls.
-fn run_over(alloc: Global, receipts: Vec<Receipt>, turns: u32, fails: Failing) -> Result<Ran, Fail>
-    requires { All IsNoFailure receipts.items }
-{
-    let conf = conf_of(alloc)?;
-    let readings = readings_of(alloc)?;
-    let mut objects = objects_of(alloc, receipts, readings, fails)?;
+/// So many turns of this member over the objects.
+pub(crate) fn take_turns(conf: Conf, turns: u32, mut objects: Objects) -> Ran {
     let end = live(
         conf,
         turns,
@@ -262,7 +258,17 @@ fn run_over(alloc: Global, receipts: Vec<Receipt>, turns: u32, fails: Failing) -
         &mut objects.out,
         &mut objects.capture,
     );
-    Ok(Ran { end, objects })
+    Ran { end, objects }
+}
+
+/// So many turns over these receipts, with these failing calls.
+fn run_over(alloc: Global, receipts: Vec<Receipt>, turns: u32, fails: Failing) -> Result<Ran, Fail>
+    requires { All IsNoFailure receipts.items }
+{
+    let conf = conf_of(alloc)?;
+    let readings = readings_of(alloc)?;
+    let objects = objects_of(alloc, receipts, readings, fails)?;
+    Ok(take_turns(conf, turns, objects))
 }
 
 /// The realistic run, with these failing calls.
@@ -313,61 +319,59 @@ fn capture_of(alloc: Global) -> Result<Vec<u8>, AllocError> {
     Ok(bytes)
 }
 
+/// How the realistic run ends.
+const ALL_TAKEN: LifeEnd = LifeEnd {
+    sent: 19,
+    moved: 1,
+    refused: 1,
+    quiet: 18,
+    lost: 0,
+    turns: 20,
+    why: Why::Done,
+};
+
 // The lines, the capture, the correction, the sends and what the disk holds.
-fn expect_realistic(rt: &impl Abort, capture: &[u8], objects: &Objects) {
-    assert_eq!(rt;
-        (objects.out.bytes(), objects.capture.bytes()),
-        (REPORT, capture)
-    );
-    assert_eq!(rt;
-        (objects.clock.moves(), objects.link.sends().len()),
-        ([Move::Slew(29_000_000)].as_slice(), 19)
-    );
-    assert_eq!(rt;
-        &objects.disk.content()[..8],
-        b"\xA5\x01\0\0\0\0\0\x40".as_slice()
-    );
+fn expect_realistic(rt: &impl Abort, capture: &[u8], ran: &Ran) {
+    same(rt, &ran.end, &ALL_TAKEN, &());
+    let objects = &ran.objects;
+    same(rt, &objects.out.bytes(), &REPORT, &());
+    same(rt, &objects.capture.bytes(), &capture, &());
+    let moves = [Move::Slew(29_000_000)];
+    same(rt, &objects.clock.moves(), &moves.as_slice(), &());
+    same(rt, &objects.link.sends().len(), &19, &());
+    let front = &objects.disk.content()[..8];
+    same(rt, &front, &b"\xA5\x01\0\0\0\0\0\x40".as_slice(), &());
 }
 
 #[test]
 fn realistic_run(rt: HostRuntime) -> Result<(), Fail> {
-    let ran = run(rt.alloc(), Failing::default())?;
     let capture = capture_of(rt.alloc())?;
-    assert_eq!(rt; capture.len(), 389);
-    expect_realistic(&rt, &capture, &ran.objects);
-    assert_eq!(rt;
-        ran.end,
-        LifeEnd {
-            sent: 19,
-            moved: 1,
-            refused: 1,
-            quiet: 18,
-            lost: 0,
-            turns: 20,
-            why: Why::Done,
-        }
-    );
+    same(&rt, &capture.len(), &389, &());
+    let ran = run(rt.alloc(), Failing::default())?;
+    expect_realistic(&rt, &capture, &ran);
     Ok(())
+}
+
+/// Which reading fails, how many turns were taken before, and how many bytes of the capture were written.
+type FirstFault = (u64, u32, usize);
+
+const FIRST_FAULTS: &[FirstFault] = &[(4, 2, 43), (3, 1, 30)];
+
+fn expect_first_fault(rt: &impl Abort, fault: &FirstFault, capture: &[u8], ran: &Ran) {
+    let (call, turns, len) = *fault;
+    let got = (ran.end.why, ran.end.turns);
+    same(rt, &got, &(Why::ClockFault, turns), &call);
+    let written = Some(ran.objects.capture.bytes());
+    same(rt, &written, &capture.get(..len), &call);
 }
 
 // Quiet receipts, and a clock whose third or fourth reading fails.
 #[test]
 fn bad_words_and_first_faults(rt: HostRuntime) -> Result<(), Fail> {
     let capture = capture_of(rt.alloc())?;
-    for (call, turns, len) in [(4, 2, 43), (3, 1, 30)] {
-        let fails = Failing {
-            clock: call,
-            ..Failing::default()
-        };
-        let ran = run_quiet(rt.alloc(), fails)?;
-        assert_eq!(rt;
-            (
-                ran.end.why,
-                ran.end.turns,
-                Some(ran.objects.capture.bytes())
-            ),
-            (Why::ClockFault, turns, capture.get(..len))
-        );
+    for fault in FIRST_FAULTS {
+        let ran = run_quiet(rt.alloc(), failure_of(Object::Clock, fault.0))?;
+        expect_first_fault(&rt, fault, &capture, &ran);
     }
     Ok(())
 }
@@ -422,16 +426,10 @@ const FAULTS: &[Row] = &[
 
 fn expect_row(rt: &impl Abort, whole: &[u8], row: &Row, ran: &Ran) {
     let (_, call, why, len, moves, turns) = *row;
-    assert_eq!(rt;
-        (ran.end.why, ran.end.turns, ran.objects.clock.moves().len()),
-        (why, turns, moves),
-        "call {call}"
-    );
-    assert_eq!(rt;
-        Some(ran.objects.capture.bytes()),
-        whole.get(..len),
-        "call {call}"
-    );
+    let got = (ran.end.why, ran.end.turns, ran.objects.clock.moves().len());
+    same(rt, &got, &(why, turns, moves), &call);
+    let written = Some(ran.objects.capture.bytes());
+    same(rt, &written, &whole.get(..len), &call);
 }
 
 #[test]

@@ -5,7 +5,8 @@ ghost use Rattle.edge_io.specs.LinkScript.{IsNoFailure};
 ghost use Rattle.slot_disk.specs.Memory.{memory_tells};
 ghost use Rattle.member_run.specs.Running.{IsGoing};
 
-use crate::calls::{resync, start};
+use crate::asserts::same;
+use crate::calls::{answer_of, resync, start};
 use crate::hostile::{REPLY, add_times as add_lines};
 use crate::lives::{FIRST, Object, Objects, R0, failure_of, objects_of, readings_among};
 use edge_io::{Datagram, Move, Receipt, ScriptLink};
@@ -380,22 +381,6 @@ fn ask(times: u32, run: &mut Running, objects: &mut Objects) -> Result<(), Fail>
     Ok(())
 }
 
-/// What the call of a row answers.
-fn answer_of(row: &Row, run: &mut Running, objects: &mut Objects) -> Result<u32, Why>
-    requires { IsGoing (memory_tells objects.old.disk) run.old }
-{
-    run.resync(
-        row.wait,
-        row.flags,
-        &mut objects.link,
-        &mut objects.clock,
-        &mut objects.disk,
-        &mut objects.entropy,
-        &mut objects.out,
-        &mut objects.capture,
-    )
-}
-
 /// What a run came to between two calls.
 fn totals_of(counts: [u32; 5]) -> LifeEnd {
     let [sent, moved, refused, quiet, lost] = counts;
@@ -439,7 +424,7 @@ fn call(alloc: Global, row: &Row) -> Result<Called, Fail> {
     let mut objects = devices_of(alloc, row)?;
     let mut run = start(alloc, &mut objects)?;
     ask(row.before, &mut run, &mut objects)?;
-    let answer = answer_of(row, &mut run, &mut objects);
+    let answer = answer_of(&mut run, row.wait, row.flags, &mut objects);
     Ok(Called {
         answer,
         totals: run.totals(),
@@ -448,23 +433,16 @@ fn call(alloc: Global, row: &Row) -> Result<Called, Fail> {
 }
 
 fn expect_answer(rt: &impl Abort, row: &Row, called: &Called) {
-    assert_eq!(rt;
-        (called.answer, called.totals),
-        (row.answer, totals_of(row.counts)),
-        "{}",
-        row.case
-    );
+    same(rt, &called.answer, &row.answer, &row.case);
+    same(rt, &called.totals, &totals_of(row.counts), &row.case);
 }
 
 fn expect_devices(rt: &impl Abort, row: &Row, report: &[u8], objects: &Objects) {
     let sends = objects.link.sends().len();
     let taken = objects.link.calls().len().saturating_sub(sends);
-    assert_eq!(rt;
-        (taken, objects.clock.moves(), objects.out.bytes()),
-        (row.taken, moves_of(row.counts), report),
-        "{}",
-        row.case
-    );
+    same(rt, &taken, &row.taken, &row.case);
+    same(rt, &objects.clock.moves(), &moves_of(row.counts), &row.case);
+    same(rt, &objects.out.bytes(), &report, &row.case);
 }
 
 fn expect_row(rt: &impl Abort, alloc: Global, row: &Row) -> Result<(), Fail> {

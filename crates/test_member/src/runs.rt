@@ -1,4 +1,5 @@
 //! Runs of `/member`.
+use crate::asserts::{holds, same};
 use edge_io::{Addr, Move, Put, Tried};
 use std::alloc::Global;
 use std::process::Abort;
@@ -11,12 +12,12 @@ use w32tm_cmd::Status;
 
 const WORDS: &[&str] = &["/member:20", "/config:c", "/keeper:k"];
 
-const FIRST: Addr = Addr {
+pub(crate) const FIRST: Addr = Addr {
     ip: 0x0A00_0002,
     port: 123,
 };
 
-const SECOND: Addr = Addr {
+pub(crate) const SECOND: Addr = Addr {
     ip: 0x0A00_0001,
     port: 123,
 };
@@ -53,7 +54,7 @@ const RANDOM: [u32; 20] = [
 ];
 
 /// Twenty turns: nothing, ten bytes, the reply to the third request, and nothing more.
-const TWENTY: Script<'static> = Script {
+pub(crate) const TWENTY: Script<'static> = Script {
     settings: SETTINGS,
     came: &[
         Came::Nothing,
@@ -97,27 +98,46 @@ fn count_of(tried: &Tried) -> Option<u32> {
 /// The send of this number is a short request with that count, to the partner that is asked then.
 fn expect_send(rt: &impl Abort, count: u32, tried: &Tried) {
     let to = if count < 12 { FIRST } else { SECOND };
-    assert_eq!(rt;
-        (
-            tried.to,
-            tried.put,
-            tried.bytes.as_slice().len(),
-            count_of(tried)
-        ),
-        (to, Put::Done, 68, Some(count)),
-        "{count}"
+    let len = tried.bytes.as_slice().len();
+    same(
+        rt,
+        &(tried.to, tried.put, len, count_of(tried)),
+        &(to, Put::Done, 68, Some(count)),
+        &count,
     );
+}
+
+/// The sends have the counts from 1 on.
+fn expect_sends(rt: &impl Abort, ran: &Ran) {
+    let mut count = 0u32;
+    for tried in ran.sends() {
+        count = count.saturating_add(1);
+        expect_send(rt, count, tried);
+    }
+}
+
+/// The capture replays to the same lines, but for the link's.
+fn expect_replayed(rt: &impl Abort, alloc: Global, ran: &Ran) -> Result<(), Fail> {
+    let replayed = run(alloc, &["/replay", "/config:c"], ran.capture(), &TWENTY)?;
+    same(rt, &replayed.status, &Status::Done, &());
+    same(rt, &replayed.written(), &REALISTIC, &());
+    Ok(())
 }
 
 // The lines, the capture, the correction and what the keeper holds.
 fn expect_realistic(rt: &impl Abort, report: &[u8], capture: &[u8], ran: &Ran) {
-    assert_eq!(rt; (ran.status, ran.written()), (Status::Done, report));
-    assert_eq!(rt; (ran.capture().len(), ran.capture()), (389, capture));
-    assert_eq!(rt; *ran.image(), reserved_once());
-    assert_eq!(rt;
-        (ran.moves(), ran.sends().len(), ran.config_left, ran.left),
-        ([Move::Slew(29_000_000)].as_slice(), 19, 0, 5)
+    same(rt, &ran.status, &Status::Done, &());
+    same(rt, &ran.written(), &report, &());
+    same(
+        rt,
+        &(ran.capture().len(), ran.capture()),
+        &(389, capture),
+        &(),
     );
+    same(rt, ran.image(), &reserved_once(), &());
+    same(rt, &ran.moves(), &[Move::Slew(29_000_000)].as_slice(), &());
+    let counts = (ran.sends().len(), ran.config_left, ran.left);
+    same(rt, &counts, &(19, 0, 5), &());
 }
 
 #[test]
@@ -127,19 +147,8 @@ fn realistic_run(rt: HostRuntime) -> Result<(), Fail> {
     let capture = realistic_capture(alloc)?;
     let ran = run(alloc, WORDS, b"input", &TWENTY)?;
     expect_realistic(&rt, &report, &capture, &ran);
-    let mut count = 0u32;
-    for tried in ran.sends() {
-        count = count.saturating_add(1);
-        expect_send(&rt, count, tried);
-    }
-
-    // Its capture replays to the same lines, but for the link's.
-    let replayed = run(alloc, &["/replay", "/config:c"], ran.capture(), &TWENTY)?;
-    assert_eq!(rt;
-        (replayed.status, replayed.written()),
-        (Status::Done, REALISTIC)
-    );
-    Ok(())
+    expect_sends(&rt, &ran);
+    expect_replayed(&rt, alloc, &ran)
 }
 
 /// How many lines, bytes of the capture, sends and moves there are of so many events: of the Life, and in each turn of a
@@ -219,6 +228,16 @@ fn run_failing(alloc: Global, device: Device, call: u64) -> Result<Ran, Fail> {
     run(alloc, WORDS, b"", &script)
 }
 
+/// The status, and how many bytes of the capture, sends and moves there are.
+pub(crate) fn made_by(ran: &Ran) -> (Status, usize, usize, usize) {
+    (
+        ran.status,
+        ran.capture().len(),
+        ran.sends().len(),
+        ran.moves().len(),
+    )
+}
+
 /// How many lines were printed.
 fn printed(text: &[u8]) -> usize {
     text.iter().filter(|byte| **byte == b'\n').count()
@@ -228,26 +247,15 @@ fn printed(text: &[u8]) -> usize {
 fn expect_events(rt: &impl Abort, device: Device, call: usize, ran: &Ran) {
     let (status, events) = end_of(device, call);
     let (lines, len, sends, moves) = DUE[events.min(23)];
-    assert_eq!(rt;
-        (
-            ran.status,
-            ran.capture().len(),
-            ran.sends().len(),
-            ran.moves().len()
-        ),
-        (status, len, sends, moves),
-        "{device:?} {call}"
-    );
-    assert_eq!(rt;
-        printed(ran.written()),
-        lines_of(device, call, lines),
-        "{device:?} {call}"
-    );
+    let case = (device, call);
+    same(rt, &made_by(ran), &(status, len, sends, moves), &case);
+    let want = lines_of(device, call, lines);
+    same(rt, &printed(ran.written()), &want, &case);
 }
 
 fn expect_fronts(rt: &impl Abort, report: &[u8], capture: &[u8], ran: &Ran) {
-    assert!(rt; report.starts_with(ran.written()));
-    assert!(rt; capture.starts_with(ran.capture()));
+    holds(rt, report.starts_with(ran.written()), &());
+    holds(rt, capture.starts_with(ran.capture()), &());
 }
 
 #[test]
@@ -285,20 +293,9 @@ fn expect_link(rt: &impl Abort, call: u64, ran: &Ran) {
     } else {
         1
     };
-    assert_eq!(rt;
-        (
-            ran.status,
-            ran.capture().len(),
-            ran.sends().len(),
-            ran.moves().len()
-        ),
-        (Status::Done, 389, 19, moves),
-        "{call}"
-    );
-    assert!(rt;
-        ran.written().ends_with(totals_of(call).as_bytes()),
-        "{call}"
-    );
+    same(rt, &made_by(ran), &(Status::Done, 389, 19, moves), &call);
+    let totals = totals_of(call).as_bytes();
+    holds(rt, ran.written().ends_with(totals), &call);
 }
 
 // A failed send or receive is counted and ends nothing.
@@ -311,8 +308,11 @@ fn failed_calls_of_the_link(rt: HostRuntime) -> Result<(), Fail> {
     Ok(())
 }
 
-// The calls of settings and clock that fail; then the exit code, and how many bytes of the capture were written.
-const FIRST_FAULTS: &[(Device, u64, u8, usize)] = &[
+/// A call of a device that fails; then the exit code, and how many bytes of the capture were written.
+type FirstFault = (Device, u64, u8, usize);
+
+// Calls of settings and clock.
+const FIRST_FAULTS: &[FirstFault] = &[
     (Device::Config, 1, 4, 0),
     (Device::Clock, 3, 9, 30),
     (Device::Clock, 4, 9, 43),
@@ -332,27 +332,31 @@ fn run_quiet(alloc: Global, device: Device, call: u64) -> Result<Ran, Fail> {
     )
 }
 
+/// Words that spell no command read no settings.
+fn expect_bad_words(rt: &impl Abort, alloc: Global) -> Result<(), Fail> {
+    let words = ["/member:0", "/config:c", "/keeper:k"];
+    let ran = run(alloc, &words, b"", &QUIET)?;
+    same(rt, &ran.status, &Status::BadWords, &());
+    let code = ran.status.code();
+    same(rt, &(code, ran.config_left > 0), &(1, true), &());
+    Ok(())
+}
+
+fn expect_first_fault(rt: &impl Abort, fault: FirstFault, capture: &[u8], ran: &Ran) {
+    let (device, call, code, len) = fault;
+    let case = (device, call);
+    same(rt, &ran.status.code(), &code, &case);
+    same(rt, &Some(ran.capture()), &capture.get(..len), &case);
+}
+
 #[test]
 fn bad_words_and_first_faults(rt: HostRuntime) -> Result<(), Fail> {
-    let ran = run(
-        rt.alloc(),
-        &["/member:0", "/config:c", "/keeper:k"],
-        b"",
-        &QUIET,
-    )?;
-    assert_eq!(rt;
-        (ran.status, ran.status.code(), ran.config_left > 0),
-        (Status::BadWords, 1, true)
-    );
+    expect_bad_words(&rt, rt.alloc())?;
     // A Life and Ticks, which are those of the realistic run up to its first arrival.
     let capture = realistic_capture(rt.alloc())?;
-    for (device, call, code, len) in FIRST_FAULTS {
-        let ran = run_quiet(rt.alloc(), *device, *call)?;
-        assert_eq!(rt;
-            (ran.status.code(), Some(ran.capture())),
-            (*code, capture.get(..*len)),
-            "{device:?} {call}"
-        );
+    for fault in FIRST_FAULTS {
+        let ran = run_quiet(rt.alloc(), fault.0, fault.1)?;
+        expect_first_fault(&rt, *fault, &capture, &ran);
     }
     Ok(())
 }
@@ -395,166 +399,60 @@ fn run_kept(alloc: Global, image: [u8; 256]) -> Result<Ran, Fail> {
     )
 }
 
+/// The exit code, the lines, the length of the capture, and whether the keeper holds this still.
+fn made_of<'a>(ran: &'a Ran, image: &[u8; 256]) -> (u8, &'a [u8], usize, bool) {
+    let same_image = ran.image() == image;
+    (
+        ran.status.code(),
+        ran.written(),
+        ran.capture().len(),
+        same_image,
+    )
+}
+
 #[test]
 fn keeper_at_its_last_mark(rt: HostRuntime) -> Result<(), Fail> {
     for (version, mark, code, lines, len) in KEEPERS {
         let image = kept(*version, *mark);
         let ran = run_kept(rt.alloc(), image)?;
-        assert_eq!(rt;
-            (
-                ran.status.code(),
-                ran.written(),
-                ran.capture().len(),
-                *ran.image() == image
-            ),
-            (*code, *lines, *len, *code != 0),
-            "{version} {mark}"
-        );
+        let (got, case) = (made_of(&ran, &image), (*version, *mark));
+        same(&rt, &got, &(*code, *lines, *len, *code != 0), &case);
     }
     Ok(())
 }
 
 /// The run sent 18 requests, whose counts stand behind this mark.
 fn expect_counts(rt: &impl Abort, ran: &Ran, life: &[u8], mark: u32) {
-    assert!(rt; ran.written().starts_with(life), "{mark}");
-    assert_eq!(rt;
-        (ran.status, ran.sends().len()),
-        (Status::Done, 18),
-        "{mark}"
-    );
+    holds(rt, ran.written().starts_with(life), &mark);
+    let ended = (ran.status, ran.sends().len());
+    same(rt, &ended, &(Status::Done, 18), &mark);
     let mut count: u32 = mark;
     for tried in ran.sends() {
         count = count.saturating_add(1);
-        assert_eq!(rt; count_of(tried), Some(count), "{mark}");
+        same(rt, &count_of(tried), &Some(count), &mark);
     }
+}
+
+/// A run over a keeper that holds this, in which nothing comes: its first line, and the mark before its counts. It gives
+/// what the keeper holds after it.
+fn expect_quiet(
+    rt: &impl Abort,
+    alloc: Global,
+    image: [u8; 256],
+    life: &[u8],
+    mark: u32,
+) -> Result<[u8; 256], Fail> {
+    let script = Script { image, ..QUIET };
+    let ran = run(alloc, WORDS, b"", &script)?;
+    expect_counts(rt, &ran, life, mark);
+    Ok(*ran.image())
 }
 
 // The second run on a disk begins behind all counts that the first may have sent. Two of the twenty readings come within an
 // interval of a request, so two turns send nothing.
 #[test]
 fn two_runs_on_one_disk(rt: HostRuntime) -> Result<(), Fail> {
-    let first = run(rt.alloc(), WORDS, b"", &QUIET)?;
-    let again = Script {
-        image: *first.image(),
-        ..QUIET
-    };
-    let second = run(rt.alloc(), WORDS, b"", &again)?;
-    expect_counts(&rt, &first, b"life mark=0\n", 0);
-    expect_counts(&rt, &second, b"life mark=64\n", 64);
-    Ok(())
-}
-
-/// Not the port of a partner.
-const STRANGER: Addr = Addr {
-    ip: FIRST.ip,
-    port: 124,
-};
-
-// The bytes of a reply, of a request, and of no message.
-const REPLY_BYTES: &[u8; 256] = &[0x1C; 256];
-
-const REQUEST_BYTES: &[u8; 256] = &[0xDB; 256];
-
-const STRANGE_BYTES: &[u8; 256] = &[0xFF; 256];
-
-// Senders, each with the bytes of which it sends fronts.
-const HOSTILE: &[(Addr, &[u8; 256])] = &[
-    (FIRST, REPLY_BYTES),
-    (FIRST, REQUEST_BYTES),
-    (FIRST, STRANGE_BYTES),
-    (SECOND, REPLY_BYTES),
-    (SECOND, REQUEST_BYTES),
-    (SECOND, STRANGE_BYTES),
-    (STRANGER, REPLY_BYTES),
-    (STRANGER, REQUEST_BYTES),
-    (STRANGER, STRANGE_BYTES),
-];
-
-/// What this sender sends: of these bytes the front of each length.
-fn fronts(
-    alloc: Global,
-    from: Addr,
-    bytes: &'static [u8; 256],
-) -> Result<Vec<Came<'static>>, Fail> {
-    let mut came = Vec::new(alloc);
-    for len in 0..257 {
-        came.push(Came::From(from, &bytes[..len]))?;
-    }
-    Ok(came)
-}
-
-/// A turn for each front. The clock stands still, so the first turn alone sends a request.
-const STILL: Script<'static> = Script {
-    settings: SETTINGS,
-    readings: &[NEW_YEAR; 515],
-    random: &[7; 257],
-    room: 50_000,
-    ..STEADY
-};
-
-fn run_still<'a>(alloc: Global, came: &'a [Came<'a>]) -> Result<Ran, Fail> {
-    let script = Script { came, ..STILL };
-    run(
-        alloc,
-        &["/member:257", "/config:c", "/keeper:k"],
-        b"",
-        &script,
-    )
-}
-
-fn run_hostile(alloc: Global, from: Addr, bytes: &'static [u8; 256]) -> Result<Ran, Fail> {
-    let came = fronts(alloc, from, bytes)?;
-    run_still(alloc, &came)
-}
-
-fn replay_hostile(alloc: Global, ran: &Ran) -> Result<Ran, Fail> {
-    let script = Script {
-        room: 50_000,
-        ..TWENTY
-    };
-    run(alloc, &["/replay", "/config:c"], ran.capture(), &script)
-}
-
-// A Life of 17 bytes; in each turn a Tick of 13, and an arrival of 17 and its datagram: 17 + 257 * 30 + 32,896 bytes.
-fn expect_refused(rt: &impl Abort, from: Addr, first: u8, ran: &Ran) {
-    assert_eq!(rt;
-        (
-            ran.status,
-            ran.capture().len(),
-            ran.sends().len(),
-            ran.moves().len()
-        ),
-        (Status::Done, 40_623, 1, 0),
-        "{from:?} {first}"
-    );
-    assert!(rt;
-        ran.written()
-            .ends_with(b"total sent=1 moved=0 refused=257\nlink quiet=0 lost=0\n"),
-        "{from:?} {first}"
-    );
-}
-
-fn expect_same_lines(rt: &impl Abort, from: Addr, first: u8, ran: &Ran, replayed: &Ran) {
-    assert_eq!(rt;
-        (replayed.status, Some(replayed.written())),
-        (
-            Status::Done,
-            ran.written().strip_suffix(b"link quiet=0 lost=0\n")
-        ),
-        "{from:?} {first}"
-    );
-}
-
-// Datagrams of all lengths. None of them moves the clock or ends the run, and the capture replays to the same lines, but
-// for the link's.
-#[test]
-fn hostile_datagrams(rt: HostRuntime) -> Result<(), Fail> {
-    for (from, bytes) in HOSTILE {
-        let (from, first) = (*from, bytes[0]);
-        let ran = run_hostile(rt.alloc(), from, *bytes)?;
-        expect_refused(&rt, from, first, &ran);
-        let replayed = replay_hostile(rt.alloc(), &ran)?;
-        expect_same_lines(&rt, from, first, &ran, &replayed);
-    }
+    let image = expect_quiet(&rt, rt.alloc(), [0; 256], b"life mark=0\n", 0)?;
+    let _ = expect_quiet(&rt, rt.alloc(), image, b"life mark=64\n", 64)?;
     Ok(())
 }

@@ -1,4 +1,5 @@
 //! A run of `/member` whose clock is stepped.
+use crate::asserts::same;
 use edge_io::{Addr, Move};
 use std::test::Fail;
 use test_scripts::{Came, INTERVAL, NEW_YEAR, SETTINGS, STEADY, Script, run};
@@ -47,10 +48,13 @@ link quiet=0 lost=0\n";
 fn a_step_and_the_next_tick(rt: HostRuntime) -> Result<(), Fail> {
     let words = ["/member:2", "/config:c", "/keeper:k"];
     let ran = run(rt.alloc(), &words, b"", &STEPPED)?;
-    assert_eq!(rt; (ran.status, ran.written()), (Status::Done, REPORT));
-    assert_eq!(rt;
-        ran.moves(),
-        [Move::Step(35_999_000_000), Move::Slew(9_000_000)].as_slice()
+    let moves = [Move::Step(35_999_000_000), Move::Slew(9_000_000)];
+    same(
+        &rt,
+        &(ran.status, ran.written()),
+        &(Status::Done, REPORT),
+        &(),
     );
+    same(&rt, &ran.moves(), &moves.as_slice(), &());
     Ok(())
 }

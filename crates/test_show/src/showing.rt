@@ -1,4 +1,5 @@
 //! Runs of `/show`.
+use crate::asserts::same;
 use dc_sign::Refusal;
 use edge_io::Reading;
 use std::alloc::Global;
@@ -29,18 +30,23 @@ fn lines_up_to(alloc: Global, count: usize) -> Result<Vec<u8>, Fail> {
     Ok(lines)
 }
 
+/// The run ended so and wrote this, and neither input nor clock was read.
+fn expect_end(rt: &impl Abort, status: Status, written: &[u8], ran: &Ran) {
+    same(rt, &ran.status, &status, &());
+    same(rt, &ran.written(), &written, &status);
+    let left = (ran.left, ran.next);
+    same(rt, &left, &(68, Reading::At(NEW_YEAR)), &status);
+}
+
 #[test]
 fn shows_the_sample_request(rt: HostRuntime) -> Result<(), Fail> {
     let lines = lines_up_to(rt.alloc(), 5)?;
     let ran = run(rt.alloc(), &[SHOW], &REQUEST, &STEADY)?;
-    assert_eq!(rt;
-        (ran.status, ran.written(), ran.left, ran.next),
-        (Status::Done, lines.as_slice(), 68, Reading::At(NEW_YEAR))
-    );
+    expect_end(&rt, Status::Done, &lines, &ran);
     Ok(())
 }
 
-/// The line behind so many fails.
+/// The line after so many fails.
 fn run_failing(alloc: Global, count: usize) -> Result<Ran, Fail> {
     let failing = [(Device::Out, (count as u64).saturating_add(1))];
     let script = Script {
@@ -60,7 +66,20 @@ fn run_short(alloc: Global, due: usize, line: &str) -> Result<Ran, Fail> {
 }
 
 fn expect_lines(rt: &impl Abort, due: &[u8], ran: &Ran) {
-    assert_eq!(rt; (ran.status, ran.written()), (Status::WriteFault, due));
+    same(rt, &ran.status, &Status::WriteFault, &due.len());
+    same(rt, &ran.written(), &due, &due.len());
+}
+
+fn expect_failed(rt: &impl Abort, alloc: Global, number: usize, due: &[u8]) -> Result<(), Fail> {
+    let ran = run_failing(alloc, number)?;
+    expect_lines(rt, due, &ran);
+    Ok(())
+}
+
+fn expect_short(rt: &impl Abort, alloc: Global, due: &[u8], line: &str) -> Result<(), Fail> {
+    let ran = run_short(alloc, due.len(), line)?;
+    expect_lines(rt, due, &ran);
+    Ok(())
 }
 
 // The lines before the one whose write fails stay, also where that one has no room.
@@ -68,10 +87,8 @@ fn expect_lines(rt: &impl Abort, due: &[u8], ran: &Ran) {
 fn shows_up_to_a_failed_write(rt: HostRuntime) -> Result<(), Fail> {
     for (number, line) in LINES.iter().enumerate() {
         let due = lines_up_to(rt.alloc(), number)?;
-        let failed = run_failing(rt.alloc(), number)?;
-        expect_lines(&rt, &due, &failed);
-        let short = run_short(rt.alloc(), due.len(), line)?;
-        expect_lines(&rt, &due, &short);
+        expect_failed(&rt, rt.alloc(), number, &due)?;
+        expect_short(&rt, rt.alloc(), &due, line)?;
     }
     Ok(())
 }
@@ -85,17 +102,20 @@ fn zeros(alloc: Global, len: u32) -> Result<String, Fail> {
     Ok(word)
 }
 
+fn run_zeros(alloc: Global, len: u32) -> Result<Ran, Fail> {
+    let word = zeros(alloc, len)?;
+    run(alloc, &[word.as_str()], &REQUEST, &STEADY)
+}
+
+const BAD_LENGTHS: &[u32] = &[0, 1, 47, 49, 67, 69, 72, 119, 121, 256];
+
 #[test]
 fn other_lengths_are_bad(rt: HostRuntime) -> Result<(), Fail> {
-    for len in [0, 1, 47, 49, 67, 69, 72, 119, 121, 256] {
-        let word = zeros(rt.alloc(), len)?;
-        let ran = run(rt.alloc(), &[word.as_str()], &REQUEST, &STEADY)?;
-        let reason = Refusal::BadLength;
-        assert_eq!(rt;
-            (ran.status, ran.written().len(), ran.left, ran.next),
-            (Status::BadRequest { reason }, 0, 68, Reading::At(NEW_YEAR)),
-            "{len} bytes"
-        );
+    let reason = Refusal::BadLength;
+    for len in BAD_LENGTHS {
+        let ran = run_zeros(rt.alloc(), *len)?;
+        same(&rt, &ran.status, &Status::BadRequest { reason }, len);
+        expect_end(&rt, Status::BadRequest { reason }, b"", &ran);
     }
     Ok(())
 }

@@ -1,4 +1,5 @@
 //! Runs of `/sign`.
+use crate::asserts::{holds, same};
 use dc_sign::Refusal;
 use edge_io::Reading;
 use std::alloc::Global;
@@ -35,15 +36,22 @@ fn run_cut(alloc: Global, cut: usize) -> Result<Ran, Fail> {
     run(alloc, &[WORD], &REQUEST, &script)
 }
 
+/// The reply is that of the sample, and both readings were taken.
+fn expect_signed(rt: &impl Abort, cut: usize, ran: &Ran) {
+    same(
+        rt,
+        &(ran.status, ran.next),
+        &(Status::Done, Reading::Failed),
+        &cut,
+    );
+    same(rt, &ran.written(), &REPLY.as_slice(), &cut);
+}
+
 #[test]
 fn signs_the_sample_request(rt: HostRuntime) -> Result<(), Fail> {
     for cut in 0..68 {
         let ran = run_cut(rt.alloc(), cut)?;
-        assert_eq!(rt;
-            (ran.status, ran.written(), ran.next),
-            (Status::Done, REPLY.as_slice(), Reading::Failed),
-            "cut at {cut}"
-        );
+        expect_signed(&rt, cut, &ran);
     }
     Ok(())
 }
@@ -118,13 +126,14 @@ fn request_of(alloc: Global, behind: &[u8], zeros: usize) -> Result<Vec<u8>, Fai
 }
 
 fn expect_reply(rt: &impl Abort, word: &str, len: usize, reply: &[u8], ran: &Ran) {
-    assert_eq!(rt;
-        (ran.status, ran.written().len()),
-        (Status::Done, len),
-        "{word}"
+    same(
+        rt,
+        &(ran.status, ran.written().len()),
+        &(Status::Done, len),
+        &word,
     );
-    assert!(rt; ran.written().starts_with(&REPLY[..48]), "{word}");
-    assert!(rt; ran.written().ends_with(reply), "{word}");
+    holds(rt, ran.written().starts_with(&REPLY[..48]), &word);
+    holds(rt, ran.written().ends_with(reply), &word);
 }
 
 #[test]
@@ -160,10 +169,8 @@ fn run_extended(alloc: Global) -> Result<Ran, Fail> {
 }
 
 fn expect_refused(rt: &impl Abort, reason: Refusal, left: usize, ran: &Ran) {
-    assert_eq!(rt;
-        (ran.status, ran.written().len(), ran.left),
-        (Status::BadRequest { reason }, 0, left)
-    );
+    let got = (ran.status, ran.written().len(), ran.left);
+    same(rt, &got, &(Status::BadRequest { reason }, 0, left), &());
 }
 
 /// A byte of the request, what stands there, and why that is refused.
@@ -193,11 +200,16 @@ fn expect_lengths(rt: &impl Abort, alloc: Global) -> Result<(), Fail> {
     Ok(())
 }
 
+fn expect_extended(rt: &impl Abort, alloc: Global) -> Result<(), Fail> {
+    let ran = run_extended(alloc)?;
+    expect_refused(rt, Refusal::NoOldKey, 0, &ran);
+    Ok(())
+}
+
 #[test]
 fn refusals_of_the_controller(rt: HostRuntime) -> Result<(), Fail> {
     expect_changed(&rt, rt.alloc())?;
-    let ran = run_extended(rt.alloc())?;
-    expect_refused(&rt, Refusal::NoOldKey, 0, &ran);
+    expect_extended(&rt, rt.alloc())?;
     expect_lengths(&rt, rt.alloc())
 }
 
@@ -280,24 +292,31 @@ fn run_row(alloc: Global, row: &Row) -> Result<Ran, Fail> {
 
 /// The run ended so, and nothing was written.
 fn expect_end(rt: &impl Abort, status: Status, left: usize, next: Reading, ran: &Ran) {
-    assert_eq!(rt;
-        (ran.status, ran.written().len(), ran.left, ran.next),
-        (status, 0, left, next)
-    );
+    let got = (ran.status, ran.written().len(), ran.left, ran.next);
+    same(rt, &got, &(status, 0, left, next), &());
+}
+
+fn expect_bad_words(rt: &impl Abort, alloc: Global) -> Result<(), Fail> {
+    for words in BAD_WORDS {
+        let ran = run(alloc, words, &REQUEST, &STEADY)?;
+        expect_end(rt, Status::BadWords, 68, Reading::At(NEW_YEAR), &ran);
+    }
+    Ok(())
+}
+
+fn expect_faults(rt: &impl Abort, alloc: Global) -> Result<(), Fail> {
+    for row in FAULTS {
+        let (_, _, status, left, next) = *row;
+        let ran = run_row(alloc, row)?;
+        expect_end(rt, status, left, next, &ran);
+    }
+    Ok(())
 }
 
 #[test]
 fn bad_words_and_first_faults(rt: HostRuntime) -> Result<(), Fail> {
-    for words in BAD_WORDS {
-        let ran = run(rt.alloc(), words, &REQUEST, &STEADY)?;
-        expect_end(&rt, Status::BadWords, 68, Reading::At(NEW_YEAR), &ran);
-    }
-    for row in FAULTS {
-        let (_, _, status, left, next) = *row;
-        let ran = run_row(rt.alloc(), row)?;
-        expect_end(&rt, status, left, next, &ran);
-    }
-    Ok(())
+    expect_bad_words(&rt, rt.alloc())?;
+    expect_faults(&rt, rt.alloc())
 }
 
 /// No bytes come in, and these calls fail.
@@ -308,10 +327,14 @@ fn run_empty(alloc: Global, failing: &[(Device, u64)]) -> Result<Ran, Fail> {
 // The clock is read before the request is looked at, and nothing is written for a refused one.
 #[test]
 fn refused_requests_and_faults(rt: HostRuntime) -> Result<(), Fail> {
-    let ran = run_empty(rt.alloc(), &[(Device::Clock, 2), (Device::Out, 1)])?;
-    assert_eq!(rt; ran.status, Status::ClockFault);
-    let ran = run_empty(rt.alloc(), &[(Device::Out, 1)])?;
+    let both = [(Device::Clock, 2), (Device::Out, 1)];
     let reason = Refusal::BadLength;
-    assert_eq!(rt; ran.status, Status::BadRequest { reason });
+    for (failing, status) in [
+        (both.as_slice(), Status::ClockFault),
+        (&both[1..], Status::BadRequest { reason }),
+    ] {
+        let ran = run_empty(rt.alloc(), failing)?;
+        same(&rt, &ran.status, &status, &failing);
+    }
     Ok(())
 }
