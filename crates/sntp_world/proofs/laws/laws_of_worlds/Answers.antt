@@ -1,0 +1,31 @@
+use Rattle.std.proofs.Common.{◌<◌, ◌^◌}
+use Rattle.time_machine.specs.Machine.{told}
+use Rattle.time_machine.proofs.Open.{open_at}
+use Rattle.sntp_world.specs.declared.packet.Packet.{Packet}
+use Rattle.sntp_world.specs.Laws.{IsPacketOf, LawOfClocks, LawOfHistories, LawOfPackets, LawOfRequests}
+use Rattle.sntp_world.specs.Setting.{world_conf}
+use Rattle.sntp_world.proofs.Cases.{lives_always}
+use Rattle.sntp_world.proofs.Packets.{packets_always}
+use Rattle.sntp_world.proofs.Requests.{requests_always}
+use Rattle.sntp_world.proofs.laws.laws_of_worlds.Goals as goal
+
+histories : LawOfHistories
+histories ops w is = let lives = lives_always ops w is in (lives.grows, lives.mark)
+
+clocks : LawOfClocks
+clocks ops w is = (packets_always ops w is).clocks
+
+packets : LawOfPackets
+packets ops w p is sent = let sound = (packets_always ops w is).sound p sent in (sound.member, sound.controller, sound.uneven_then)
+
+requests : LawOfRequests
+requests ops w r is o =
+    let there = (requests_always ops w is).there r ((open_at world_conf (told world_conf w.history) r).0 o) in (
+      λ (fits : r.word < 2 ^ 32).
+          let found = there.there fits in
+          (found.packet, record { sent = found.sent; asks = found.asks; stamp = found.stamp }),
+      λ (p : Packet) (of : IsPacketOf w r p). there.only p of.sent of.asks of.stamp,
+    )
+
+pub returns : goal.returns
+returns c = record { histories = histories; clocks = clocks; packets = packets; requests = requests }

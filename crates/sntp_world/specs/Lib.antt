@@ -1,0 +1,10 @@
+pub mod Setting
+pub mod State
+pub mod Steps
+pub mod Standing
+pub mod Laws
+pub mod Draws
+pub mod Summary
+pub mod Simulation
+pub mod Running
+pub mod Due

@@ -1,0 +1,10 @@
+//! Laws of the world.
+ghost use Rattle.sntp_world.specs.Laws.{LawOfClocks, LawOfHistories, LawOfPackets, LawOfRequests};
+
+/// What holds of each world, whatever operations led to it.
+pub fn laws_of_worlds()
+    ensures histories { LawOfHistories }
+    ensures clocks { LawOfClocks }
+    ensures packets { LawOfPackets }
+    ensures requests { LawOfRequests }
+{}
