@@ -50,10 +50,19 @@ for option in "" /keeper: /keeper "/keeper:$folder/a /keeper:$folder/b" "/keeper
 done
 bad_words /dc:1 "$config" "/keeper:$folder/keeper"
 # What isn't built.
-for words in "/query /source" "/query /bits" /resync /service:1 /simulate:1:2 /relay:1 /vote /signd:1; do
+for words in /service:1 /relay:1 /vote /signd:1; do
     bad_words $words "$config"
 done
-bad_words /query /source /bits
+for words in "/query /source /bits" /query "/query /source /source" "/query /source /nowait" "/source /query" "/resync /source" \
+    "/resync /nowait /nowait" "/resync /computer:" "/resync /computer:10.0.0.1:0" "/resync /computer:10.0.0.256" /resync: /query:; do
+    bad_words $words
+done
+for word in /simulate /simulate: /simulate:1 /simulate:1:0 /simulate:1:100001 /simulate:01:2 /simulate:4294967296:2; do
+    bad_words $word
+done
+for option in "$config" /port:12300 /capture: "/capture:$folder/a /capture:$folder/b"; do bad_words /simulate:1:2 $option; done
+bad_words /resync "$config"
+bad_words /query /bits "$config"
 bad_words /dc:1 "$config" $'/port:1\xff'
 
 # Settings, by each command that reads them.
@@ -158,6 +167,9 @@ explains() {
     failed=1
 }
 missing="No such file or directory (os error 2)"
+# A service on a port on which nobody listens.
+says 4 "w32tm: read fault" "" /resync "/computer:127.0.0.1:$port"
+explains "w32tm: 127.0.0.1:$port: Connection refused (os error 111)"$'\n' "w32tm: read fault" /query /bits "/computer:127.0.0.1:$port"
 explains "w32tm: $folder/missing: $missing"$'\n' "w32tm: read fault" /monitor "/config:$folder/missing"
 explains "w32tm: $folder/missing/keeper: $missing"$'\n' "w32tm: disk fault" $alone "/keeper:$folder/missing/keeper"
 explains "w32tm: $folder/settings: longer than 256 bytes"$'\n' "w32tm: disk fault" $alone "/keeper:$folder/settings"
@@ -170,6 +182,13 @@ exec {held}>&-
 "$program" /dc:3 "$config" "/port:$port" >"$folder/first" &
 wait_for_port $port
 explains "w32tm: port $port: Address already in use (os error 98)"$'\n' "" /dc:1 "$config" "/port:$port"
+wait $!
+# A pipe of samples that nobody reads. The first correction finds that, and the reading after it fails.
+mkfifo "$folder/fifo"
+"$program" /dc:3 "$config" "/port:$port" >"$folder/first" &
+wait_for_port $port
+explains "w32tm: $folder/fifo: a pipe that nobody reads"$'\n' "w32tm: clock fault" \
+    /member:3 "/config:$folder/member.conf" "$keeper" "/clock:$folder/fifo"
 explains "" "" /replay "$member"
 
 [ $failed = 0 ] && echo "$script: $cases cases, all as they should be" || say "$cases cases, not all as they should be"

@@ -3,12 +3,14 @@
 //! The devices number their calls together, so that a run is one word, a letter a call. Each word was put together by hand
 //! from the rules of the command. `expected.rt` compares a run with its word; and makes each call of it fail in its turn:
 //! a failing call is the last one, but for a send or a receive. `member.rt` has a run of a member with a step, a slew, a
-//! refused reply, a change of partner and a second block of counts; `others.rt` the other commands; `refused.rt` runs that end
-//! otherwise than as Done.
+//! refused reply, a change of partner and a second block of counts; `asking.rt` has `/resync` and `/query`, `others.rt` the other
+//! commands, and `refused.rt` runs that end otherwise than as Done.
 //!
 //! It stands on `test_scripts` for the devices and the top call.
 #![tactic(auto)]
 
+#[cfg(test)]
+mod asking;
 #[cfg(test)]
 mod expected;
 #[cfg(test)]

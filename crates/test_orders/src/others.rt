@@ -125,6 +125,15 @@ const ROWS: &[Row] = &[
         },
         &[(1, "ooooo")],
     ),
+    (
+        Run {
+            words: &["/simulate:1:2", "/capture:c"],
+            input: b"",
+            script: STEADY,
+            status: Status::Done,
+        },
+        &[(1, "ccooo")],
+    ),
 ];
 
 #[test]

@@ -4,7 +4,7 @@ use Rattle.std.specs.declared.alloc.Global.{Global}
 use Rattle.edge_io.specs.declared.random.RandomFile.{RandomFile}
 use Rattle.edge_io.specs.declared.udp_link.UdpLink.{UdpLink}
 use Rattle.w32tm_text.specs.declared.words.Action.{Action}
-use Rattle.w32tm_text.specs.declared.words.Action.TheVariants.{Sign, Show, Dc, Member, Monitor, Replay}
+use Rattle.w32tm_text.specs.declared.words.Action.TheVariants.{Dc, Member, Monitor, Replay, Simulate}
 use Rattle.w32tm_text.specs.declared.words.Command.{Command}
 use Rattle.w32tm_text.specs.Words.{texts}
 
@@ -15,12 +15,10 @@ HasPathAt name words place path = slice_get (texts words) place ≡ Some (name +
 -- the local port of a command's link where the words name none: 123 for a controller, which answers there, and any
 -- free one, 0, for one that asks; the others have no link
 abbrev pub default_port : Action → Option ℕ
-default_port (Sign account) = None
-default_port (Show bytes) = None
 default_port (Dc turns) = Some 123
 default_port (Member turns) = Some 0
 default_port Monitor = Some 0
-default_port Replay = None
+default_port _ = None
 
 -- the local port of a command's link, if there is a command with one: that which the words name, and else its own
 abbrev pub port_by : Option Command → Option ℕ
@@ -29,12 +27,9 @@ port_by (Some command) = option_map (λ port. unwrap_or command.port port) (defa
 
 -- which commands draw random words
 abbrev pub draws : Action → Bool
-draws (Sign account) = false
-draws (Show bytes) = false
-draws (Dc turns) = false
 draws (Member turns) = true
 draws Monitor = true
-draws Replay = false
+draws _ = false
 
 -- whether there is a command that draws them
 abbrev pub draws_by : Option Command → Bool
@@ -54,9 +49,10 @@ abbrev pub capture_read : Action → Option ℕ → Option ℕ
 capture_read Replay place = place
 capture_read action place = None
 
--- the word of the capture that a command records: `/member` records it, and no other command does
+-- the word of the capture that a command records: `/member` and `/simulate` record it, and no other command does
 abbrev pub capture_recorded : Action → Option ℕ → Option ℕ
 capture_recorded (Member turns) place = place
+capture_recorded (Simulate seed operations) place = place
 capture_recorded action place = None
 
 -- the words that name a file of this command, if there is a command: its settings, its keeper, the samples of its clock,

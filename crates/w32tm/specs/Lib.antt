@@ -2,3 +2,4 @@ pub mod Clock
 pub mod Devices
 pub mod Input
 pub mod Output
+pub mod Wire

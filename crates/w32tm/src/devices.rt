@@ -132,12 +132,12 @@ pub(crate) fn capture_read(command: &Command) -> Option<usize>
     }
 }
 
-/// The word of the capture that is recorded: `/member` alone records one.
+/// The word of the capture that is recorded: `/member` and `/simulate` alone record one.
 pub(crate) fn capture_recorded(command: &Command) -> Option<usize>
     ensures { result ≡ capture_recorded command.now.action command.now.capture }
 {
     match command.action {
-        Action::Member(_) => command.capture,
+        Action::Member(_) | Action::Simulate(_, _) => command.capture,
         _ => None,
     }
 }
@@ -225,7 +225,7 @@ fn port_of(command: &Command) -> Option<u16>
     let default_port = match command.action {
         Action::Dc(_) => CONTROLLER_PORT,
         Action::Member(_) | Action::Monitor => ANY_PORT,
-        Action::Sign(_) | Action::Show(_) | Action::Replay => return None,
+        _ => return None,
     };
     Some(command.port.unwrap_or(default_port))
 }
@@ -251,6 +251,7 @@ mod tests {
             (&["/monitor", "/port:9", "/config:a"], Some(9)),
             (&["/replay", "/config:a"], None),
             (&["/show:"], None),
+            (&["/query", "/bits"], None),
         ] {
             let words = owned(rt.alloc(), words)?;
             let command = read_words(&words).ok();
@@ -275,6 +276,8 @@ mod tests {
             ),
             (&["/member:3", "/config:a", "/keeper:c"], None, None),
             (&["/monitor", "/config:a"], None, None),
+            (&["/simulate:1:2", "/capture:b"], None, Some(1)),
+            (&["/simulate:1:2"], None, None),
         ] {
             let words = owned(rt.alloc(), words)?;
             let command = read_words(&words).ok();

@@ -2,7 +2,9 @@
 //!
 //! - `/dc` answers the computers of a domain as their controller, and `/sign` one request on standard input;
 //! - `/member` keeps a clock by its domain, and `/replay` says what a member does with the events of a capture;
-//! - `/monitor` asks each computer of a domain for the time, and `/show` prints the fields of a message.
+//! - `/monitor` asks each computer of a domain for the time, and `/show` prints the fields of a message;
+//! - `/resync` has a computer's time service synchronize, and `/query` asks it for its source or for what it announces;
+//! - `/simulate` runs a member in a simulated world.
 //!
 //! There is little here, and all of it is the edge: the words of the command line, the devices of the machine, the line
 //! on standard error and the exit code. The work and its contract are the call `w32tm` of the crate `w32tm_cmd`; a
@@ -11,10 +13,10 @@
 //! `devices.rt` opens what a command names and uses, and nothing else, and `outside.rt` hands each device in under its
 //! name. What can't be opened is handed in as a device each call of which fails; where W32TM_EXPLAIN is 1, `explain.rt`
 //! says why. `streams.rt` takes the standard streams that are closed before the run, and has the line and the code after
-//! it. The devices are those of `edge_io`: files, standard input and output, a UDP socket, the machine's clock and its
-//! random words; the keeper's disk is the file of `slot_disk`. `input.rt` has the one type of all that is read,
-//! `output.rt` of all that is written, and `clock.rt` of the clock; the definitions of each stand in `specs/` under its
-//! name.
+//! it. The devices are those of `edge_io`: files, standard input and output, a UDP socket, a TCP connection, the machine's
+//! clock and its random words; the keeper's disk is the file of `slot_disk`. `input.rt` has the one type of all that is
+//! read, `output.rt` of all that is written, `clock.rt` of the clock, and `wire.rt` has whom a command calls; the
+//! definitions of each stand in `specs/` under its name.
 #![tactic(auto)]
 
 mod clock;
@@ -24,6 +26,7 @@ mod input;
 mod output;
 mod outside;
 mod streams;
+mod wire;
 
 use crate::explain::{explanation, is_asked};
 use crate::outside::outside_of;

@@ -1,11 +1,13 @@
 //! All devices of a command, each under the name of what the command does with it.
-ghost use Rattle.std.specs.Prelude.{◌≡◌, IfOk, None, false, true};
-ghost use Rattle.edge_io.specs.declared.tcp_wire.Side.TheVariants.{Closed};
+ghost use Rattle.std.specs.Prelude.{◌≡◌, IfOk, None, Some, false, true};
+ghost use Rattle.edge_io.specs.declared.tcp_wire.Side.TheVariants.{Closed, Connecting};
+ghost use Rattle.edge_traits.specs.declared.datagram.Addr.{Addr};
 ghost use Rattle.slot_disk.specs.File.{is_open};
 ghost use Rattle.w32tm.specs.Clock.{is_sampled};
 ghost use Rattle.w32tm.specs.Devices.{config_by, draws_by, has_socket, has_words, keeper_by, port_by, read_by, recorded_by, samples_by};
 ghost use Rattle.w32tm.specs.Input.{is_closed, is_standard};
 ghost use Rattle.w32tm.specs.Output.{is_file, is_null};
+ghost use Rattle.w32tm.specs.Wire.{target_by};
 
 use crate::clock::MachineClock;
 use crate::devices::{
@@ -14,6 +16,7 @@ use crate::devices::{
 };
 use crate::input::Input;
 use crate::output::Output;
+use crate::wire::wire_of;
 use edge_io::{
     FileSink, RandomFile, ReaderSource, RealClock, SampleClock, TcpWire, UdpLink, WriterSink,
 };
@@ -73,8 +76,10 @@ pub(crate) fn outside_of<
     ensures no_entropy { draws_by command.now ≡ false
         → IfOk result (λ o. has_words o.entropy ≡ false) }
 
-    // No command asks for a session.
-    ensures no_wire { IfOk result (λ o. o.wire.side ≡ Closed) }
+    // A service is called where the command calls one, and it is that of the words.
+    ensures called { (to : Addr) → target_by command.now ≡ Some to
+        → IfOk result (λ o. o.wire.side ≡ Connecting to) }
+    ensures no_call { target_by command.now ≡ None → IfOk result (λ o. o.wire.side ≡ Closed) }
 {
     let (config, keeper, samples, read, recorded) = match command {
         Some(command) => (
@@ -95,6 +100,6 @@ pub(crate) fn outside_of<
         clock: clock_of(rt, alloc, words, samples)?,
         disk: disk_of(&rt, words, keeper),
         entropy: entropy_of(&rt, command),
-        wire: TcpWire::without_socket(rt),
+        wire: wire_of(rt, command),
     })
 }

@@ -248,11 +248,11 @@ same_lines turns entry exit before now later last capture run again =
     let whole = again.promise.whole again.bytes capture lived.settings lived.conf lives.woven.events again.told again.says lived.is_conf again.given spells refl in
     let low = events_low lives.woven.events (missing_in lives.woven.ending) lives.woven.weaves run.few in
     let total = same_total lived.conf lives.woven.events lived.end whole.0 _ low lives.ended.totals whole.1.totals in
-    let text = printed_whole lived.conf (reverse lives.woven.events) lived.end lives.woven.ending lives.woven.need lives.effects.text lived.ended
-    (was_whole turns entry exit before now capture run) lives.effects.reports in
+    let text = printed_whole lived.conf (reverse lives.woven.events) lived.end lives.woven.ending lives.woven.need lives.turned.text lived.ended
+    (was_whole turns entry exit before now capture run) lives.turned.reports in
     record {
       lines = report_of lived.conf (reverse lives.woven.events) ++ total_line lived.end.sent lived.end.moved lived.end.refused;
-      run = subst (λ (l : List ℕ). Added before.written now.written l) text lives.effects.out;
+      run = subst (λ (l : List ℕ). Added before.written now.written l) text lives.turned.out;
       replay = rw total whole.1.written;
     }
 

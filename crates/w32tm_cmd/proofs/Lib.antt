@@ -1,4 +1,5 @@
 mod Again
+mod Asking
 mod Commands
 mod Configuring
 mod Controlling
@@ -8,4 +9,5 @@ mod Replaying
 mod Requests
 mod Showing
 mod Signing
+mod Simulating
 mod Writings

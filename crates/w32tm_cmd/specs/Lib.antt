@@ -1,4 +1,5 @@
 pub mod Again
+pub mod Ask
 pub mod Config
 pub mod Dc
 pub mod Member
@@ -8,5 +9,6 @@ pub mod Replay
 pub mod Seen
 pub mod Show
 pub mod Sign
+pub mod Simulate
 pub mod Touching
 pub mod Writing

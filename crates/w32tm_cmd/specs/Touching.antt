@@ -1,7 +1,7 @@
 -- Which devices a command touches, for each of its answers.
 use Rattle.std.specs.Prelude.{◌≡◌}
 use Rattle.w32tm_text.specs.declared.status.Status.{Status}
-use Rattle.w32tm_text.specs.declared.status.Status.TheVariants.{Done, BadCapture, BadRequest, ReadFault, WriteFault, DiskFault, BadKeeper, StampsSpent, ClockFault, EntropyFault}
+use Rattle.w32tm_text.specs.declared.status.Status.TheVariants.{Done, BadCapture, BadRequest, NotResynced, ReadFault, WriteFault, DiskFault, BadKeeper, StampsSpent, ClockFault, EntropyFault}
 use Rattle.w32tm_cmd.specs.declared.outside.Outside.{Outside}
 
 -- `/sign` touches the input, the clock and the output; the input alone where a read failed, and no output where no
@@ -71,3 +71,14 @@ MemberTouches old new StampsSpent = TouchesLived old new
 MemberTouches old new ClockFault = TouchesLived old new
 MemberTouches old new EntropyFault = TouchesLived old new
 MemberTouches old new _ = new ≡ record old { config = new.config }
+
+-- `/simulate` touches the output and the capture
+abbrev pub SimulateTouches : {S O L C D E W : Type 0} → Outside S O L C D E W → Outside S O L C D E W → Type 0
+SimulateTouches old new = new ≡ record old { out = new.out; capture_out = new.capture_out }
+
+-- `/resync` and `/query` touch the wire and the output, and the wire alone where there is no answer to print
+abbrev pub AskTouches : {S O L C D E W : Type 0} → Outside S O L C D E W → Outside S O L C D E W → Status → Type 0
+AskTouches old new Done = new ≡ record old { out = new.out; wire = new.wire }
+AskTouches old new (NotResynced result) = new ≡ record old { out = new.out; wire = new.wire }
+AskTouches old new WriteFault = new ≡ record old { out = new.out; wire = new.wire }
+AskTouches old new _ = new ≡ record old { wire = new.wire }

@@ -3,8 +3,9 @@
 //! The devices come from outside as one value, [`Outside`], over the traits of `edge_traits` and `slot_disk`. Which words
 //! are a command, and what a member is set to by settings, is settled in `w32tm_text`; the settings are read by
 //! `settings_source`. What a command does is a crate of its own: `dc_sign` answers a request and serves a link,
-//! `member_run` keeps a clock, `monitor_run` asks computers, and `replay_run` judges a capture. Nothing here opens a file,
-//! prints, or ends the program, so a test runs a whole command over objects in memory.
+//! `member_run` keeps a clock, `monitor_run` asks computers, `replay_run` judges a capture, `client_run` makes a remote
+//! call, and `sntp_world` runs a simulated world. Nothing here opens a file, prints, or ends the program, so a test runs a
+//! whole command over objects in memory.
 //!
 //! The program above makes the call [`w32tm`], and may rely on its clauses: which words are bad, what a command asks of
 //! each device and leaves there for each answer, and the cause of each answer. It prints [`status_line`] and ends with
@@ -13,12 +14,14 @@
 //!
 //! Begin with [`w32tm`] in `run.rt`; each command has a file of its own, as `sign.rt`. Runs of it over objects in memory are
 //! in the crates over `test_scripts`, one for each command. The definitions in `specs/`, in the order to read them:
-//! `Seen.antt` (what each device did), `Sign.antt`, `Show.antt`, `Dc.antt`, `Member.antt`, `Monitor.antt` and `Replay.antt`
-//! (what each command does), `Config.antt` and `Partners.antt` (how one ends that gets no settings, or settings without a
-//! partner), `Touching.antt` (which devices each answer leaves as they were), `Writing.antt` (what is written line by line)
-//! and `Again.antt` (of the law). The grammar of the words and the lines that are printed are in `w32tm_text/specs`.
+//! `Seen.antt` (what each device did), `Sign.antt`, `Show.antt`, `Dc.antt`, `Member.antt`, `Monitor.antt`, `Replay.antt`,
+//! `Ask.antt` and `Simulate.antt` (what each command does), `Config.antt` and `Partners.antt` (how one ends that gets no
+//! settings, or settings without a partner), `Touching.antt` (which devices each answer leaves as they were), `Writing.antt`
+//! (what is written line by line) and `Again.antt` (of the law). The grammar of the words and the lines that are printed are
+//! in `w32tm_text/specs`.
 #![tactic(auto)]
 
+mod ask;
 mod config;
 mod dc;
 mod laws;
@@ -29,6 +32,7 @@ mod replay;
 mod run;
 mod show;
 mod sign;
+mod simulate;
 #[cfg(test)]
 mod tests;
 mod writing;

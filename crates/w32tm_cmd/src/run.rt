@@ -1,24 +1,30 @@
 //! The top call.
-ghost use Rattle.std.specs.Prelude.{◌≡◌, ◌↔◌, ℕ, List};
+ghost use Rattle.std.specs.Prelude.{◌≡◌, ◌↔◌, ℕ, Bool, List};
 ghost use Rattle.base_specs.specs.Counts.{Rose};
 ghost use Rattle.key_book.specs.declared.account.Account.{Account};
+ghost use Rattle.w32t_calls.specs.declared.call.Call.TheVariants.{Bits, Source};
+ghost use Rattle.w32tm_cmd.specs.Ask.{AskPromise, IsAsk, sync_call};
 ghost use Rattle.w32tm_cmd.specs.Dc.{DcPromise};
 ghost use Rattle.w32tm_cmd.specs.Member.{MemberPromise};
 ghost use Rattle.w32tm_cmd.specs.Monitor.{MonitorPromise};
 ghost use Rattle.w32tm_cmd.specs.Replay.{ReplayPromise};
-ghost use Rattle.w32tm_cmd.specs.Seen.{FaultsHaveCauses};
+ghost use Rattle.w32tm_cmd.specs.Seen.{FaultsHaveCauses, NeverFalls};
 ghost use Rattle.w32tm_cmd.specs.Show.{ShowPromise};
 ghost use Rattle.w32tm_cmd.specs.Sign.{SignPromise};
-ghost use Rattle.w32tm_cmd.specs.Touching.{DcTouches, MemberTouches, MonitorTouches, ReplayTouches, ShowTouches, SignTouches};
-ghost use Rattle.w32tm_text.specs.Words.{IsDc, IsMember, IsMonitor, IsReplay, IsShow, IsSign, SpellNothing, texts};
+ghost use Rattle.w32tm_cmd.specs.Simulate.{SimulatePromise};
+ghost use Rattle.w32tm_cmd.specs.Touching.{AskTouches, DcTouches, MemberTouches, MonitorTouches, ReplayTouches, ShowTouches, SignTouches, SimulateTouches};
+ghost use Rattle.w32tm_text.specs.Words.{IsDc, IsMember, IsMonitor, IsQueryBits, IsQuerySource, IsReplay, IsResync, IsShow, IsSign, IsSimulate, SpellNothing, texts};
 
+use crate::ask::{ask_computer, sync_call};
 use crate::dc::serve_requests;
 use crate::member::keep_clock;
 use crate::monitor::ask_computers;
 use crate::replay::replay_capture;
 use crate::show::show_message;
 use crate::sign::sign_request;
+use crate::simulate::simulate_world;
 use crate::{Outside, Status, Tells};
+use client_run::Call;
 use edge_io::{Clock, Entropy, Link, Sink, Source, Wire};
 use slot_disk::Disk;
 use std::alloc::Global;
@@ -37,6 +43,12 @@ use w32tm_text::{Action, read_words};
 /// sends what is due and takes what came. `/monitor` asks each computer for the time, and writes a line for each and a
 /// last one. `/replay` steps a member through the capture of `capture_in`, and writes its report. They take memory for
 /// the settings alone, `/member` and `/replay` for their partners too; where there is none no other device is touched.
+///
+/// `/resync`, `/query /source` and `/query /bits` ask the wire for one session, bind in it and make one call, and write to
+/// `out` the line of its answer. They take no memory.
+///
+/// `/simulate:SEED:N` runs N operations of the seed in a simulated world, records its member's events in `capture_out`, and
+/// writes to `out` the three lines of the summary. It takes memory for the operations and for each message.
 ///
 /// A failed call is the last, but for one of the link. In which order two devices are called is tested (`test_orders`).
 pub fn w32tm<S: Source, O: Sink, L: Link, C: Clock, D: Disk, E: Entropy, W: Wire>(
@@ -98,9 +110,44 @@ pub fn w32tm<S: Source, O: Sink, L: Link, C: Clock, D: Disk, E: Entropy, W: Wire
         → ¬ Rose (seen outside.old).read_faults (seen outside.new).read_faults
         → outside.new ≡ record outside.old { config = outside.new.config } }
 
-    // No count falls, and each fault has its cause.
+    // What `/resync` asks of the wire and prints, for each answer; that the bytes of the session decide; and when it is
+    // answered or refused.
+    ensures resync { let seen = ⟦<Outside<S, O, L, C, D, E, W> as Tells>⟧.seen in
+        (wait rediscover : Bool) → IsResync wait rediscover (texts words.now.items)
+        → AskPromise (sync_call wait rediscover) (seen outside.old) (seen outside.new) result }
+    ensures resync_touches { (wait rediscover : Bool)
+        → IsResync wait rediscover (texts words.now.items)
+        → AskTouches outside.old outside.new result }
+
+    // The same of `/query`.
+    ensures query_source { let seen = ⟦<Outside<S, O, L, C, D, E, W> as Tells>⟧.seen in
+        IsQuerySource (texts words.now.items)
+        → AskPromise Source (seen outside.old) (seen outside.new) result }
+    ensures query_source_touches { IsQuerySource (texts words.now.items)
+        → AskTouches outside.old outside.new result }
+    ensures query_bits { let seen = ⟦<Outside<S, O, L, C, D, E, W> as Tells>⟧.seen in
+        IsQueryBits (texts words.now.items)
+        → AskPromise Bits (seen outside.old) (seen outside.new) result }
+    ensures query_bits_touches { IsQueryBits (texts words.now.items)
+        → AskTouches outside.old outside.new result }
+
+    // What `/simulate` records and prints, for each answer: the events and the summary of the world that the seed and the
+    // number of operations determine.
+    ensures simulate { let seen = ⟦<Outside<S, O, L, C, D, E, W> as Tells>⟧.seen in
+        (seed operations : ℕ) → IsSimulate seed operations (texts words.now.items)
+        → SimulatePromise seed operations (seen outside.old) (seen outside.new) result }
+    ensures simulate_touches { (seed operations : ℕ)
+        → IsSimulate seed operations (texts words.now.items)
+        → SimulateTouches outside.old outside.new }
+
+    // No count falls.
+    ensures counts { let seen = ⟦<Outside<S, O, L, C, D, E, W> as Tells>⟧.seen in
+        NeverFalls (seen outside.old) (seen outside.new) }
+
+    // Each fault has its cause. On `/resync` and `/query`, which the wire alone and the output concern, that is said above.
     ensures causes { let seen = ⟦<Outside<S, O, L, C, D, E, W> as Tells>⟧.seen in
-        FaultsHaveCauses (seen outside.old) (seen outside.new) result }
+        (IsAsk (texts words.now.items) → ⊥)
+        → FaultsHaveCauses (seen outside.old) (seen outside.new) result }
 {
     match read_words(words) {
         Err(_) => Status::BadWords,
@@ -111,6 +158,12 @@ pub fn w32tm<S: Source, O: Sink, L: Link, C: Clock, D: Disk, E: Entropy, W: Wire
             Action::Member(turns) => keep_clock(alloc, turns, outside),
             Action::Monitor => ask_computers(alloc, outside),
             Action::Replay => replay_capture(alloc, outside),
+            Action::Resync { wait, rediscover } => {
+                ask_computer(sync_call(wait, rediscover), outside)
+            }
+            Action::QuerySource => ask_computer(Call::Source, outside),
+            Action::QueryBits => ask_computer(Call::Bits, outside),
+            Action::Simulate(seed, operations) => simulate_world(alloc, seed, operations, outside),
         },
     }
 }

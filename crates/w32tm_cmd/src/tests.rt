@@ -1,5 +1,5 @@
 //! Each command once, over devices in memory. Whole runs, and runs whose devices' calls fail, are in `test_sign`,
-//! `test_dc`, `test_monitor`, `test_replay`, `test_member` and `test_settings`.
+//! `test_dc`, `test_monitor`, `test_replay`, `test_member`, `test_ask`, `test_simulate` and `test_settings`.
 use crate::{Outside, Status, w32tm};
 use edge_io::{ScriptClock, ScriptEntropy, ScriptLink, ScriptSink, ScriptSource, ScriptWire};
 use slot_disk::MemoryDisk;
@@ -157,6 +157,11 @@ link quiet=1 lost=0 unsent=0\n",
         b"",
         b"life mark=0\nsend n=1 to=10.0.0.1:123\n\
 total sent=1 moved=0 refused=0\nlink quiet=1 lost=0\n",
+    ),
+    (
+        &["/simulate:1:2", "/capture:c"],
+        b"",
+        b"ops=2 skipped=0\nsent=1 moved=0 refused=0\nslack=none\n",
     ),
 ];
 

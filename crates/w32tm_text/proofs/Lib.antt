@@ -1,4 +1,6 @@
 mod Confs
 mod Shown
 mod Spelling
-pub mod Taking
+mod Flags
+pub mod Givens
+mod Targets

@@ -12,7 +12,7 @@ use Rattle.key_book.specs.declared.account.Account.{Account}
 use Rattle.key_book.specs.AccountText.{SpellsKey}
 use Rattle.key_book.proofs.AccountLines.{account_is as same_account}
 use Rattle.w32tm_text.specs.declared.words.Action.{Action}
-use Rattle.w32tm_text.specs.declared.words.Action.TheVariants.{Sign, Show, Dc, Member, Monitor, Replay}
+use Rattle.w32tm_text.specs.declared.words.Action.TheVariants.{Sign, Show, Dc, Member, Monitor, Replay, Resync, QuerySource, QueryBits, Simulate}
 use Rattle.w32tm_text.specs.Words.{SpellsAccount, SpellsAction, SpellsDatagram, SpellsKeys, colon}
 
 -- the keys that a text with a colon spells, cut there
@@ -100,4 +100,16 @@ is_sign word text Monitor begins spells =
     absurd (omega (arith, differ))
 is_sign word text Replay begins spells =
     let differ : 115 ≡ 114 = ap (λ (l : List ℕ). get_or l 1 0) (sym begins ∙ spells) in
+    absurd (omega (arith, differ))
+is_sign word text (Resync wait rediscover) begins spells =
+    let differ : 115 ≡ 114 = ap (λ (l : List ℕ). get_or l 1 0) (sym begins ∙ spells) in
+    absurd (omega (arith, differ))
+is_sign word text QuerySource begins spells =
+    let differ : 115 ≡ 113 = ap (λ (l : List ℕ). get_or l 1 0) (sym begins ∙ spells) in
+    absurd (omega (arith, differ))
+is_sign word text QueryBits begins spells =
+    let differ : 115 ≡ 113 = ap (λ (l : List ℕ). get_or l 1 0) (sym begins ∙ spells) in
+    absurd (omega (arith, differ))
+is_sign word text (Simulate seed operations) begins spells =
+    let differ : 103 ≡ 109 = ap (λ (l : List ℕ). get_or l 3 0) (sym begins ∙ spells.written) in
     absurd (omega (arith, differ))

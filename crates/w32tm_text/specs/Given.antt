@@ -1,73 +1,43 @@
--- What one word more makes of the options that were taken.
-use Rattle.std.specs.Prelude.{◌≡◌, ◌≢◌, ◌<◌, ◌⊎◌, ◌++◌, ℕ, List, length, Bool, true, false, Option, Some, None}
-use Rattle.text_grammar.specs.Address.{SpellsPort}
-use Rattle.w32tm_text.specs.declared.options.Given.{Given}
-use Rattle.w32tm_text.specs.declared.options.Given.TheVariants as given
+-- What the words behind the first say of a command, part by part.
+use Rattle.std.specs.Prelude.{◌≡◌, ◌≢◌, ◌≤◌, ℕ, List, Bool, true, false, Some, ⊤, slice_get}
 use Rattle.w32tm_text.specs.declared.options.OptionName.{OptionName}
-use Rattle.w32tm_text.specs.declared.options.OptionName.TheVariants.{Config, Keeper, Capture, Port, Clock}
+use Rattle.w32tm_text.specs.declared.options.OptionName.TheVariants.{NoWait, Rediscover, Source}
 use Rattle.w32tm_text.specs.declared.options.Rule.TheVariants.{Required, Refused}
-use Rattle.w32tm_text.specs.declared.words.Command.{Command}
-use Rattle.w32tm_text.specs.Options.{name_text, rule_of}
+use Rattle.w32tm_text.specs.declared.words.Action.{Action}
+use Rattle.w32tm_text.specs.declared.words.Action.TheVariants.{Resync, QuerySource, QueryBits}
+use Rattle.w32tm_text.specs.Options.{Gives, GivesOneOf, IsMissing, IsSingle, rule_of}
 
--- which option is given
-abbrev pub name_of : Given → OptionName
-name_of given.Config = Config
-name_of given.Keeper = Keeper
-name_of given.Capture = Capture
-name_of (given.Port port) = Port
-name_of given.Clock = Clock
+-- whether some word gives the option
+abbrev pub IsFlag : OptionName → List (List ℕ) → Bool → Type 0
+IsFlag name words true = ¬ IsMissing name words
+IsFlag name words false = IsMissing name words
 
--- what may stand behind the name: a path, which isn't empty, or the digits of a port
-abbrev pub SpellsValue : Given → List ℕ → Type 0
-SpellsValue given.Config text = 0 < length text
-SpellsValue given.Keeper text = 0 < length text
-SpellsValue given.Capture text = 0 < length text
-SpellsValue (given.Port port) text = SpellsPort port text
-SpellsValue given.Clock text = 0 < length text
+-- the word gives this option, and the command has it
+pub record TakesOption (action : Action) (word : List ℕ) (name : OptionName) : Type 0 where
+  pub value : List ℕ
+  pub has : rule_of action name ≢ Refused
+  pub gives : Gives name word value
 
--- the word is the name of an option and its value
-pub record SpellsGiven (g : Given) (word : List ℕ) : Type 0 where
-  pub text : List ℕ
-  pub written : word ≡ name_text (name_of g) ++ text
-  pub value : SpellsValue g text
+-- each word behind the first gives an option that the command has
+abbrev pub AreOptions : Action → List (List ℕ) → Type 0
+AreOptions action words = (place : ℕ) (word : List ℕ) → 1 ≤ place → slice_get words place ≡ Some word → GivesOneOf action word
 
--- whether a value is there
-abbrev pub is_there : {A : Type 0} → Option A → Bool
-is_there None = false
-is_there (Some x) = true
+-- no option is given twice, and each that the command requires is given
+pub record IsComplete (action : Action) (words : List (List ℕ)) (name : OptionName) : Type 0 where
+  pub single : IsSingle name words
+  pub required : rule_of action name ≡ Required → ¬ IsMissing name words
 
--- whether the option was taken
-abbrev pub is_given : OptionName → Command → Bool
-is_given Config c = is_there c.config
-is_given Keeper c = is_there c.keeper
-is_given Capture c = is_there c.capture
-is_given Port c = is_there c.port
-is_given Clock c = is_there c.clock
+abbrev pub AreComplete : Action → List (List ℕ) → Type 0
+AreComplete action words = (name : OptionName) → IsComplete action words name
 
--- the command with an option more, which the word at this place gives
-abbrev pub with_given : ℕ → Given → Command → Command
-with_given place given.Config c = record c { config = Some place }
-with_given place given.Keeper c = record c { keeper = Some place }
-with_given place given.Capture c = record c { capture = Some place }
-with_given place (given.Port port) c = record c { port = Some port }
-with_given place given.Clock c = record c { clock = Some place }
+-- and whether none does
+abbrev pub IsAbsent : OptionName → List (List ℕ) → Bool → Type 0
+IsAbsent name words true = IsMissing name words
+IsAbsent name words false = ¬ IsMissing name words
 
--- the option that the word gives was taken
-pub record TakesGiven (place : ℕ) (word : List ℕ) (old new : Command) : Type 0 where
-  pub option : Given
-  pub spelled : SpellsGiven option word
-  pub has : rule_of old.action (name_of option) ≢ Refused
-  pub first : is_given (name_of option) old ≡ false
-  pub taken : new ≡ with_given place option old
-
--- What is done with the word at this place: its option is taken, or it gives none that the command has and that wasn't
--- taken before.
-abbrev pub Takes : ℕ → List ℕ → Command → Command → Option (Unit {0}) → Type 0
-Takes place word old new (Some done) = TakesGiven place word old new
-Takes place word old new None =
-    (option : Given) → SpellsGiven option word
-    → (rule_of old.action (name_of option) ≡ Refused) ⊎ (is_given (name_of option) old ≡ true)
-
--- all options that the command requires were taken
-abbrev pub HasRequired : Command → Type 0
-HasRequired c = (name : OptionName) → rule_of c.action name ≡ Required → is_given name c ≡ true
+-- the options that say which command of several with one first word it is
+abbrev pub SpellsFlags : Action → List (List ℕ) → Type 0
+SpellsFlags (Resync wait rediscover) words = IsAbsent NoWait words wait × IsFlag Rediscover words rediscover
+SpellsFlags QuerySource words = ¬ IsMissing Source words
+SpellsFlags QueryBits words = IsMissing Source words
+SpellsFlags _ words = ⊤

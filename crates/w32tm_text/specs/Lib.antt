@@ -1,3 +1,4 @@
+pub mod Calls
 pub mod Dc
 pub mod Given
 pub mod Options

@@ -3,7 +3,7 @@ use Rattle.std.specs.Prelude.{ℕ, List, [], ◌∷◌, ◌++◌, codes, decimal
 use Rattle.dc_sign.specs.declared.outcome.Refusal.{Refusal}
 use Rattle.dc_sign.specs.declared.outcome.Refusal.TheVariants.{BadLength, BadVersion, BadMode, UnknownAccount, NoOldKey}
 use Rattle.w32tm_text.specs.declared.status.Status.{Status}
-use Rattle.w32tm_text.specs.declared.status.Status.TheVariants.{Done, BadWords, BadConfig, BadCapture, ReadFault, WriteFault, DiskFault, BadKeeper, StampsSpent, ClockFault, EntropyFault, NoPartner, BadRequest, NoMemory}
+use Rattle.w32tm_text.specs.declared.status.Status.TheVariants.{Done, BadWords, BadConfig, BadCapture, ReadFault, WriteFault, DiskFault, BadKeeper, StampsSpent, ClockFault, EntropyFault, NoPartner, NotResynced, PeerRefused, BadRequest, NoMemory}
 
 -- the exit code of each status
 abbrev pub code_of : Status → ℕ
@@ -19,6 +19,8 @@ code_of StampsSpent = 8
 code_of ClockFault = 9
 code_of EntropyFault = 10
 code_of NoPartner = 11
+code_of (NotResynced result) = 12
+code_of PeerRefused = 13
 code_of (BadRequest reason) = 14
 code_of NoMemory = 15
 
@@ -44,5 +46,7 @@ line_of StampsSpent = codes "w32tm: stamps spent" ++ 10 ∷ []
 line_of ClockFault = codes "w32tm: clock fault" ++ 10 ∷ []
 line_of EntropyFault = codes "w32tm: entropy fault" ++ 10 ∷ []
 line_of NoPartner = codes "w32tm: no partner" ++ 10 ∷ []
+line_of (NotResynced result) = codes "w32tm: not resynced, result " ++ decimal result ++ 10 ∷ []
+line_of PeerRefused = codes "w32tm: peer refused" ++ 10 ∷ []
 line_of (BadRequest reason) = codes "w32tm: bad request, " ++ name_of reason ++ 10 ∷ []
 line_of NoMemory = codes "w32tm: no memory" ++ 10 ∷ []

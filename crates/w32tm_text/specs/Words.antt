@@ -1,11 +1,11 @@
 -- The grammar of the words of the command line, as a relation between a command and its spelling.
-use Rattle.std.specs.Prelude.{◌≡◌, ◌<◌, ◌≤◌, ◌^◌, ℕ, List, ◌∷◌, ◌++◌, length, map, codes, decimal, Option, Some, None, Ok, String, string_bytes}
+use Rattle.std.specs.Prelude.{◌≡◌, ◌<◌, ◌≤◌, ◌^◌, ℕ, Bool, List, ◌∷◌, ◌++◌, length, map, codes, decimal, Option, Some, None, Ok, String, string_bytes}
 use Rattle.std.specs.declared.alloc.Global.{Global}
 use Rattle.hex.specs.Hex.{decode_of}
 use Rattle.key_book.specs.declared.account.Account.{Account}
 use Rattle.key_book.specs.AccountText.{SpellsKey}
 use Rattle.w32tm_text.specs.declared.words.Action.{Action}
-use Rattle.w32tm_text.specs.declared.words.Action.TheVariants.{Sign, Show, Dc, Member, Monitor, Replay}
+use Rattle.w32tm_text.specs.declared.words.Action.TheVariants.{Sign, Show, Dc, Member, Monitor, Replay, Resync, QuerySource, QueryBits, Simulate}
 use Rattle.w32tm_text.specs.declared.words.Command.{Command}
 use Rattle.w32tm_text.specs.Options.{SpellOptions}
 
@@ -55,7 +55,20 @@ pub record SpellsTurns (name : List ℕ) (turns : ℕ) (word : List ℕ) : Type 
   pub most : turns ≤ 1000000
   pub written : word ≡ name ++ decimal turns
 
--- the first word says what is to be done
+-- `SEED:N`: a decimal of 32 bits, and a decimal of 1 to 100,000
+pub record SpellsScript (seed operations : ℕ) (text : List ℕ) : Type 0 where
+  pub fits : seed < 2 ^ 32
+  pub some : 1 ≤ operations
+  pub most : operations ≤ 100000
+  pub written : text ≡ decimal seed ++ colon ∷ decimal operations
+
+-- `/simulate:`, and the seed and the number of operations of a script
+pub record SpellsSimulate (seed operations : ℕ) (word : List ℕ) : Type 0 where
+  pub text : List ℕ
+  pub written : word ≡ codes "/simulate:" ++ text
+  pub spelled : SpellsScript seed operations text
+
+-- The first word says what is to be done. Where commands have one first word, they differ in what they require.
 abbrev pub SpellsAction : Action → List ℕ → Type 0
 SpellsAction (Sign account) word = SpellsSign account word
 SpellsAction (Show bytes) word = SpellsShow bytes word
@@ -63,6 +76,10 @@ SpellsAction (Dc turns) word = SpellsTurns (codes "/dc:") turns word
 SpellsAction (Member turns) word = SpellsTurns (codes "/member:") turns word
 SpellsAction Monitor word = word ≡ codes "/monitor"
 SpellsAction Replay word = word ≡ codes "/replay"
+SpellsAction (Resync wait rediscover) word = word ≡ codes "/resync"
+SpellsAction QuerySource word = word ≡ codes "/query"
+SpellsAction QueryBits word = word ≡ codes "/query"
+SpellsAction (Simulate seed operations) word = SpellsSimulate seed operations word
 
 -- the words are those of the command: the first says what is to be done, and the options stand behind it
 pub record SpellsCommand (c : Command) (words : List (List ℕ)) : Type 0 where
@@ -101,6 +118,22 @@ IsMonitor words = IsCommand Monitor words
 -- the words spell `/replay`
 abbrev pub IsReplay : List (List ℕ) → Type 0
 IsReplay words = IsCommand Replay words
+
+-- the words spell `/resync`, with a wait for its result or not, and with a rediscovery or not
+abbrev pub IsResync : Bool → Bool → List (List ℕ) → Type 0
+IsResync wait rediscover words = IsCommand (Resync wait rediscover) words
+
+-- the words spell `/query /source`
+abbrev pub IsQuerySource : List (List ℕ) → Type 0
+IsQuerySource words = IsCommand QuerySource words
+
+-- the words spell `/query /bits`
+abbrev pub IsQueryBits : List (List ℕ) → Type 0
+IsQueryBits words = IsCommand QueryBits words
+
+-- the words spell `/simulate` with this seed, for so many operations
+abbrev pub IsSimulate : ℕ → ℕ → List (List ℕ) → Type 0
+IsSimulate seed operations words = IsCommand (Simulate seed operations) words
 
 -- the words spell no command
 abbrev pub SpellNothing : List (List ℕ) → Type 0

@@ -1,9 +1,10 @@
 //! The texts of the program `w32tm`: the words of its command line, and the lines that it prints.
 //!
 //! Words are read as a command with its options, [`read_words`]. `/show` prints a message by [`show_lines`], and `/dc`
-//! ends with [`dc_lines`]. A run ends with a [`Status`], which has an exit code and a line on standard error,
-//! [`status_line`]. The settings text is read by [`read_settings`] of `w32t_settings`, whose [`Settings`] are handed on
-//! with their definitions; [`conf_of`] says what a member is set to by them.
+//! ends with [`dc_lines`]. What a called service answers is printed by [`resync_line`], [`bits_line`] and
+//! [`source_line`]. A run ends with a [`Status`], which has an exit code and a line on standard error, [`status_line`].
+//! The settings text is read by [`read_settings`] of `w32t_settings`, whose [`Settings`] are handed on with their
+//! definitions; [`conf_of`] says what a member is set to by them.
 //!
 //! It stands on `dc_sign`, `key_book` and `ms_auth` for what a command names and prints, on `text_grammar` for how
 //! numbers, ports and keys are spelled, on `line_text` for lines that are written without memory, and on
@@ -14,10 +15,11 @@
 //!
 //! The definitions stand in `specs/`: `Words.antt` has the grammar of commands, `Options.antt` which options each command
 //! requires and allows and where they stand, `Show.antt` the lines of a message, `Dc.antt` those with which `/dc` ends,
-//! `Status.antt` the codes and the lines of statuses, and `Conf.antt` what a member is set to. `Given.antt` belongs to the
-//! private part.
+//! `Calls.antt` those of `/resync` and `/query`, `Status.antt` the codes and the lines of statuses, and `Conf.antt` what a
+//! member is set to. `Given.antt` belongs to the private part.
 #![tactic(auto)]
 
+mod calls;
 mod conf;
 mod dc;
 mod fields;
@@ -26,6 +28,7 @@ mod show;
 mod status;
 mod words;
 
+pub use calls::{bits_line, resync_line, source_line};
 pub use conf::{ConfFault, conf_of};
 pub use dc::dc_lines;
 pub use show::show_lines;

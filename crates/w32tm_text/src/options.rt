@@ -1,14 +1,24 @@
 //! The options behind the first word.
-ghost use Rattle.std.specs.Prelude.{◌≡◌, IfSome};
-ghost use Rattle.w32tm_text.specs.declared.options.Given.{Given};
+ghost use Rattle.std.specs.Prelude.{◌≡◌, ◌<◌, ◌≤◌, ◌↔◌, ℕ, List, Option, length, IfNone, IfSome, IsTrue};
+ghost use Rattle.edge_traits.specs.declared.datagram.Addr.{Addr};
 ghost use Rattle.w32tm_text.specs.declared.words.Command.{Command};
-ghost use Rattle.w32tm_text.specs.Given.{SpellsGiven, name_of};
-ghost use Rattle.w32tm_text.specs.Options.{SpellOptions};
+ghost use Rattle.w32tm_text.specs.Given.{AreComplete, AreOptions, IsComplete, IsFlag};
+ghost use Rattle.w32tm_text.specs.Options.{GivesAt, IsMissing, IsSingle, SpellOptions, SpellsPlace, SpellsPortOption, SpellsTarget, SpellsTargetOption};
 ghost use Rattle.w32tm_text.specs.Words.{texts};
 
 use crate::words::behind;
 use crate::{Action, Command};
-use text_grammar::read_port;
+use edge_traits::Addr;
+use text_grammar::{cut, read_address, read_port};
+
+/// The port of the service's calls, where the words name none.
+const CALLS_PORT: u16 = 49_152;
+
+/// The service of this machine.
+const OWN_SERVICE: Addr = Addr {
+    ip: 0x7F00_0001,
+    port: CALLS_PORT,
+};
 
 /// An option, by its name.
 #[derive(Clone, Copy, PartialEq, Eq)]
@@ -23,16 +33,78 @@ pub(crate) enum OptionName {
     Port,
     /// `/clock:`
     Clock,
+    /// `/computer:`
+    Computer,
+    /// `/nowait`
+    NoWait,
+    /// `/rediscover`
+    Rediscover,
+    /// `/source`
+    Source,
+    /// `/bits`
+    Bits,
 }
 
 /// All options.
-const OPTION_NAMES: [OptionName; 5] = [
+const OPTION_NAMES: [OptionName; 10] = [
     OptionName::Config,
     OptionName::Keeper,
     OptionName::Capture,
     OptionName::Port,
     OptionName::Clock,
+    OptionName::Computer,
+    OptionName::NoWait,
+    OptionName::Rediscover,
+    OptionName::Source,
+    OptionName::Bits,
 ];
+
+impl OptionName {
+    ghost use Rattle.std.specs.Prelude.{◌≡◌, ℕ, List, IfSome, IsSomeAnd};
+    ghost use Rattle.w32tm_text.specs.Options.{Gives, is_bare, name_text};
+
+    /// How a word begins that gives the option.
+    fn text(self) -> &'static [u8]
+        ensures { result.now ≡ name_text self }
+    {
+        match self {
+            OptionName::Config => b"/config:",
+            OptionName::Keeper => b"/keeper:",
+            OptionName::Capture => b"/capture:",
+            OptionName::Port => b"/port:",
+            OptionName::Clock => b"/clock:",
+            OptionName::Computer => b"/computer:",
+            OptionName::NoWait => b"/nowait",
+            OptionName::Rediscover => b"/rediscover",
+            OptionName::Source => b"/source",
+            OptionName::Bits => b"/bits",
+        }
+    }
+
+    /// Whether the name is all that a word says that gives the option.
+    fn is_bare(self) -> bool
+        ensures { result ≡ is_bare self }
+    {
+        match self {
+            OptionName::NoWait | OptionName::Rediscover | OptionName::Source | OptionName::Bits =>
+                true,
+            _ => false,
+        }
+    }
+
+    /// The value behind the name in a word that gives the option. None where the word doesn't.
+    fn value_in(self, word: &[u8]) -> Option<&[u8]>
+        ensures read { IfSome result (λ value. Gives self word.now value.now) }
+        ensures found { (value : List ℕ) → Gives self word.now value
+            → IsSomeAnd result (λ v. v.now ≡ value) }
+    {
+        let value = behind(word, self.text())?;
+        if self.is_bare() && !value.is_empty() {
+            return None;
+        }
+        Some(value)
+    }
+}
 
 /// Whether words with a command have an option.
 #[derive(Clone, Copy, PartialEq, Eq)]
@@ -45,21 +117,6 @@ pub(crate) enum Rule {
     Refused,
 }
 
-/// What a word gives.
-#[derive(Clone, Copy)]
-pub(crate) enum Given {
-    /// `/config:PATH`
-    Config,
-    /// `/keeper:PATH`
-    Keeper,
-    /// `/capture:PATH`
-    Capture,
-    /// `/port:N`
-    Port(u16),
-    /// `/clock:PATH`
-    Clock,
-}
-
 /// The command with this action and with the options that the words behind the first give. None where one of them gives
 /// none that the command has, or gives one again, or where a required one is missing.
 pub(crate) fn read_options(action: Action, words: &Vec<String>) -> Option<Command>
@@ -68,71 +125,69 @@ pub(crate) fn read_options(action: Action, words: &Vec<String>) -> Option<Comman
     ensures found { (c : Command) → c.action ≡ action → SpellOptions c (texts words.now.items)
         → result ≡ Some c }
 {
-    let mut command = Command {
-        action,
-        config: None,
-        keeper: None,
-        capture: None,
-        port: None,
-        clock: None,
-    };
-    for place in 1..words.len() {
-        command.take(place, words[place].as_bytes())?;
-    }
-    if !command.is_complete() {
+    if !are_options(&action, words) || !are_complete(&action, words) {
         return None;
     }
-    Some(command)
+    Some(Command {
+        action,
+        config: path_of(words, OptionName::Config)?,
+        keeper: path_of(words, OptionName::Keeper)?,
+        capture: path_of(words, OptionName::Capture)?,
+        port: port_of(words, OptionName::Port)?,
+        clock: path_of(words, OptionName::Clock)?,
+        computer: target_of(words)?,
+    })
 }
 
-impl Command {
-    ghost use Rattle.std.specs.Prelude.{◌≡◌, ◌↔◌, IsTrue};
-    ghost use Rattle.w32tm_text.specs.Given.{Takes, HasRequired, is_given};
-
-    /// Takes the option that the word at this place gives. None where it gives none, or one that the command refuses or
-    /// has already.
-    fn take(&mut self, place: usize, word: &[u8]) -> Option<()>
-        ensures { Takes place word.now self.old self.new result }
-    {
-        let given = read_option(word)?;
-        let name = given.name();
-        if self.action.rule(name) == Rule::Refused || self.has(name) {
-            return None;
-        }
-        match given {
-            Given::Config => self.config = Some(place),
-            Given::Keeper => self.keeper = Some(place),
-            Given::Capture => self.capture = Some(place),
-            Given::Port(port) => self.port = Some(port),
-            Given::Clock => self.clock = Some(place),
-        }
-        Some(())
-    }
-
-    /// Whether all required options were taken.
-    fn is_complete(&self) -> bool
-        ensures { IsTrue result ↔ HasRequired self.now }
-    {
-        OPTION_NAMES.iter().all(|name| self.action.rule(*name) != Rule::Required || self.has(*name))
-    }
-
-    /// Whether the option was taken.
-    fn has(&self, name: OptionName) -> bool
-        ensures { result ≡ is_given name self.now }
-    {
-        match name {
-            OptionName::Config => self.config.is_some(),
-            OptionName::Keeper => self.keeper.is_some(),
-            OptionName::Capture => self.capture.is_some(),
-            OptionName::Port => self.port.is_some(),
-            OptionName::Clock => self.clock.is_some(),
+/// Whether each word behind the first gives an option that the command has.
+fn are_options(action: &Action, words: &Vec<String>) -> bool
+    ensures { IsTrue result ↔ AreOptions action.now (texts words.now.items) }
+{
+    for place in 1..words.len() {
+        if !action.has_word(words[place].as_bytes()) {
+            return false;
         }
     }
+    true
+}
+
+/// Whether no option is given twice, and each that the command requires is given.
+fn are_complete(action: &Action, words: &Vec<String>) -> bool
+    ensures { IsTrue result ↔ AreComplete action.now (texts words.now.items) }
+{
+    OPTION_NAMES
+        .iter()
+        .all(|name| is_complete(action, words, *name))
+}
+
+/// Whether the option isn't given twice, and is given where the command requires it.
+fn is_complete(action: &Action, words: &Vec<String>, name: OptionName) -> bool
+    ensures { IsTrue result ↔ IsComplete action.now (texts words.now.items) name }
+{
+    is_single(words, name) && (action.rule(name) != Rule::Required || is_given(words, name))
 }
 
 impl Action {
-    ghost use Rattle.std.specs.Prelude.{◌≡◌};
-    ghost use Rattle.w32tm_text.specs.Options.{rule_of};
+    ghost use Rattle.std.specs.Prelude.{◌≡◌, ◌↔◌, IsTrue};
+    ghost use Rattle.w32tm_text.specs.Given.{TakesOption};
+    ghost use Rattle.w32tm_text.specs.Options.{GivesOneOf, rule_of};
+
+    /// Whether the word gives an option that the command has.
+    fn has_word(&self, word: &[u8]) -> bool
+        ensures { IsTrue result ↔ GivesOneOf self.now word.now }
+    {
+        OPTION_NAMES.iter().any(|name| self.takes(*name, word))
+    }
+
+    /// Whether the word gives this option, and the command has it.
+    fn takes(&self, name: OptionName, word: &[u8]) -> bool
+        ensures { IsTrue result ↔ TakesOption self.now word.now name }
+    {
+        if self.rule(name) == Rule::Refused {
+            return false;
+        }
+        name.value_in(word).is_some()
+    }
 
     /// Whether words with this command have the option.
     fn rule(&self, name: OptionName) -> Rule
@@ -142,54 +197,129 @@ impl Action {
             Action::Sign(_) | Action::Show(_) => Rule::Refused,
             Action::Dc(_) | Action::Monitor => match name {
                 OptionName::Config => Rule::Required,
-                OptionName::Keeper | OptionName::Capture | OptionName::Clock => Rule::Refused,
                 OptionName::Port => Rule::Allowed,
+                _ => Rule::Refused,
             },
             Action::Member(_) => match name {
                 OptionName::Config | OptionName::Keeper => Rule::Required,
                 OptionName::Capture | OptionName::Port | OptionName::Clock => Rule::Allowed,
+                _ => Rule::Refused,
             },
             Action::Replay => match name {
                 OptionName::Config => Rule::Required,
                 OptionName::Capture => Rule::Allowed,
-                OptionName::Keeper | OptionName::Port | OptionName::Clock => Rule::Refused,
+                _ => Rule::Refused,
+            },
+            Action::Resync { wait, rediscover } => match name {
+                OptionName::Computer => Rule::Allowed,
+                OptionName::NoWait if !*wait => Rule::Required,
+                OptionName::Rediscover if *rediscover => Rule::Required,
+                _ => Rule::Refused,
+            },
+            Action::QuerySource => match name {
+                OptionName::Source => Rule::Required,
+                OptionName::Computer => Rule::Allowed,
+                _ => Rule::Refused,
+            },
+            Action::QueryBits => match name {
+                OptionName::Bits => Rule::Required,
+                OptionName::Computer => Rule::Allowed,
+                _ => Rule::Refused,
+            },
+            Action::Simulate(_, _) => match name {
+                OptionName::Capture => Rule::Allowed,
+                _ => Rule::Refused,
             },
         }
     }
 }
 
-impl Given {
-    /// Which option this is.
-    fn name(self) -> OptionName
-        ensures { result ≡ name_of self }
-    {
-        match self {
-            Given::Config => OptionName::Config,
-            Given::Keeper => OptionName::Keeper,
-            Given::Capture => OptionName::Capture,
-            Given::Port(_) => OptionName::Port,
-            Given::Clock => OptionName::Clock,
-        }
+/// Whether some word gives the option.
+pub(crate) fn is_given(words: &Vec<String>, name: OptionName) -> bool
+    ensures { IsFlag name (texts words.now.items) result }
+{
+    given_from(words, name, 1).is_some()
+}
+
+/// Whether at most one word gives the option.
+fn is_single(words: &Vec<String>, name: OptionName) -> bool
+    ensures { IsTrue result ↔ IsSingle name (texts words.now.items) }
+{
+    match given_from(words, name, 1) {
+        Some((place, _)) => given_from(words, name, place + 1).is_none(),
+        None => true,
     }
 }
 
-/// What the word gives. None where it gives no option.
-fn read_option(word: &[u8]) -> Option<Given>
-    ensures read { IfSome result (λ g. SpellsGiven g word.now) }
-    ensures found { (g : Given) → SpellsGiven g word.now → result ≡ Some g }
+/// The first word at this place or after it that gives the option: its place and the value in it.
+fn given_from(words: &Vec<String>, name: OptionName, from: usize) -> Option<(usize, &[u8])>
+    requires { 1 ≤ from }
+    ensures within { IfSome result (λ found. found.0 < length words.now.items) }
+    ensures after { IfSome result (λ found. from ≤ found.0) }
+    ensures gives { IfSome result (λ found.
+        GivesAt name (texts words.now.items) found.0 found.1.now) }
+    ensures first { IfSome result (λ found. (place : ℕ) (value : List ℕ) → from ≤ place
+        → place < found.0 → GivesAt name (texts words.now.items) place value → ⊥) }
+    ensures none { IfNone result ((place : ℕ) (value : List ℕ) → from ≤ place
+        → GivesAt name (texts words.now.items) place value → ⊥) }
 {
-    if let Some(path) = behind(word, b"/config:") {
-        return (!path.is_empty()).then_some(Given::Config);
+    for place in from..words.len() {
+        if let Some(value) = name.value_in(words[place].as_bytes()) {
+            return Some((place, value));
+        }
     }
-    if let Some(path) = behind(word, b"/keeper:") {
-        return (!path.is_empty()).then_some(Given::Keeper);
+    None
+}
+
+/// In which word the path of the option stands, where one gives it. None where that path is empty.
+fn path_of(words: &Vec<String>, name: OptionName) -> Option<Option<usize>>
+    ensures read { IfSome result (SpellsPlace name (texts words.now.items)) }
+    ensures found { (place : Option ℕ) → IsSingle name (texts words.now.items)
+        → SpellsPlace name (texts words.now.items) place → result ≡ Some place }
+{
+    match given_from(words, name, 1) {
+        Some((place, path)) => (!path.is_empty()).then_some(Some(place)),
+        None => Some(None),
     }
-    if let Some(path) = behind(word, b"/capture:") {
-        return (!path.is_empty()).then_some(Given::Capture);
+}
+
+/// The port of the option, where a word gives it. None where what stands there is none.
+fn port_of(words: &Vec<String>, name: OptionName) -> Option<Option<u16>>
+    ensures read { IfSome result (SpellsPortOption name (texts words.now.items)) }
+    ensures found { (port : Option ℕ) → IsSingle name (texts words.now.items)
+        → SpellsPortOption name (texts words.now.items) port → result ≡ Some port }
+{
+    match given_from(words, name, 1) {
+        Some((_, digits)) => Some(Some(read_port(digits)?)),
+        None => Some(None),
     }
-    if let Some(path) = behind(word, b"/clock:") {
-        return (!path.is_empty()).then_some(Given::Clock);
+}
+
+/// The service that is called. None where a word names one wrongly.
+fn target_of(words: &Vec<String>) -> Option<Addr>
+    ensures read { IfSome result (λ addr. SpellsTargetOption addr (texts words.now.items)) }
+    ensures found { (addr : Addr) → IsSingle OptionName.Computer (texts words.now.items)
+        → SpellsTargetOption addr (texts words.now.items) → result ≡ Some addr }
+{
+    match given_from(words, OptionName::Computer, 1) {
+        Some((_, target)) => read_target(target),
+        None => Some(OWN_SERVICE),
     }
-    let port = behind(word, b"/port:")?;
-    Some(Given::Port(read_port(port)?))
+}
+
+/// The service at `ADDRESS` or `ADDRESS:PORT`.
+fn read_target(text: &[u8]) -> Option<Addr>
+    ensures read { IfSome result (λ addr. SpellsTarget addr text.now) }
+    ensures found { (addr : Addr) → SpellsTarget addr text.now → result ≡ Some addr }
+{
+    match cut(text, b':') {
+        None => Some(Addr {
+            ip: read_address(text)?,
+            port: CALLS_PORT,
+        }),
+        Some((address, port)) => Some(Addr {
+            ip: read_address(address)?,
+            port: read_port(port)?,
+        }),
+    }
 }

@@ -35,6 +35,10 @@ pub enum Status {
     EntropyFault,
     /// The settings name no computer that could be asked.
     NoPartner,
+    /// The service that was called asked for the time, with this result, which isn't 0.
+    NotResynced { result: u32 },
+    /// The service that was called refused, or answered what is no reply.
+    PeerRefused,
     /// The request gets no reply, for this reason.
     BadRequest { reason: Refusal },
     /// There was no memory.
@@ -59,6 +63,8 @@ impl Status {
             Status::ClockFault => 9,
             Status::EntropyFault => 10,
             Status::NoPartner => 11,
+            Status::NotResynced { .. } => 12,
+            Status::PeerRefused => 13,
             Status::BadRequest { .. } => 14,
             Status::NoMemory => 15,
         }
@@ -82,6 +88,8 @@ pub fn status_line(status: &Status) -> LineText
         Status::ClockFault => line("w32tm: clock fault\n"),
         Status::EntropyFault => line("w32tm: entropy fault\n"),
         Status::NoPartner => line("w32tm: no partner\n"),
+        Status::NotResynced { result } => numbered("w32tm: not resynced, result ", *result),
+        Status::PeerRefused => line("w32tm: peer refused\n"),
         Status::BadRequest { reason } => match reason {
             Refusal::BadLength => line("w32tm: bad request, BadLength\n"),
             Refusal::BadVersion => line("w32tm: bad request, BadVersion\n"),
@@ -94,7 +102,7 @@ pub fn status_line(status: &Status) -> LineText
 }
 
 /// A text and a number behind it.
-fn numbered<I: Integer>(text: &str, number: I) -> LineText
+pub(crate) fn numbered<I: Integer>(text: &str, number: I) -> LineText
     requires within { length text.now + I.MAX_STR_LEN < 96 }
     requires ascii { IsTrue (list_all is_ascii text.now) }
     ensures { result ≡ text.now ++ I.text number ++ 10 ∷ [] }
@@ -107,7 +115,7 @@ fn numbered<I: Integer>(text: &str, number: I) -> LineText
 }
 
 /// A text that fits a line.
-fn line(text: &str) -> LineText
+pub(crate) fn line(text: &str) -> LineText
     requires within { length text.now ≤ 96 }
     requires ascii { IsTrue (list_all is_ascii text.now) }
     ensures { result ≡ text.now }

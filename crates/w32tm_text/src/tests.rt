@@ -1,4 +1,5 @@
 //! Words good and bad, the lines of messages and of `/dc`, and the codes and lines of statuses.
+mod calls;
 mod options;
 
 use crate::{Action, Status, dc_lines, read_words, show_lines, status_line};
@@ -217,6 +218,17 @@ const STATUSES: &[(Status, u8, &str)] = &[
     (Status::ClockFault, 9, "w32tm: clock fault\n"),
     (Status::EntropyFault, 10, "w32tm: entropy fault\n"),
     (Status::NoPartner, 11, "w32tm: no partner\n"),
+    (
+        Status::NotResynced { result: 1 },
+        12,
+        "w32tm: not resynced, result 1\n",
+    ),
+    (
+        Status::NotResynced { result: u32::MAX },
+        12,
+        "w32tm: not resynced, result 4294967295\n",
+    ),
+    (Status::PeerRefused, 13, "w32tm: peer refused\n"),
     (
         Status::BadRequest {
             reason: Refusal::BadLength,

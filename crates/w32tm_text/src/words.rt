@@ -1,13 +1,14 @@
 //! The words of the command line.
-ghost use Rattle.std.specs.Prelude.{◌≡◌, ◌≤◌, ℕ, List, Option, ◌++◌, ◌∷◌, ◌/◌, length, decimal, IsTrue, IfOk, IfSome, IsSomeAnd, Some, Ok};
+ghost use Rattle.std.specs.Prelude.{◌≡◌, ◌≤◌, ℕ, List, Option, ◌++◌, ◌∷◌, ◌/◌, length, decimal, IsTrue, IfOk, IfSome, IsSomeAnd, Some, Ok, codes};
 ghost use Rattle.hex.specs.Hex.{decode_of};
 ghost use Rattle.key_book.specs.declared.account.Account.{Account};
 ghost use Rattle.w32tm_text.specs.declared.words.Action.{Action};
 ghost use Rattle.w32tm_text.specs.declared.words.Command.{Command};
-ghost use Rattle.w32tm_text.specs.Words.{SpellsAccount, SpellsAction, SpellsCommand, SpellsDatagram, SpellsKeys, texts};
+ghost use Rattle.w32tm_text.specs.Given.{SpellsFlags};
+ghost use Rattle.w32tm_text.specs.Words.{SpellsAccount, SpellsAction, SpellsCommand, SpellsDatagram, SpellsKeys, SpellsScript, texts};
 
-use crate::options::read_options;
-use edge_traits::{DATAGRAM_LEN, Datagram};
+use crate::options::{OptionName, is_given, read_options};
+use edge_traits::{Addr, DATAGRAM_LEN, Datagram};
 use key_book::Account;
 use text_grammar::{cut, read_decimal, read_key};
 
@@ -17,8 +18,17 @@ const MONITOR: &[u8] = b"/monitor";
 /// The word of a replay.
 const REPLAY: &[u8] = b"/replay";
 
+/// The word of a call for the time.
+const RESYNC: &[u8] = b"/resync";
+
+/// The word of a call that asks.
+const QUERY: &[u8] = b"/query";
+
 /// The most turns of a run.
 const MOST_TURNS: u32 = 1_000_000;
+
+/// The most operations of a simulation.
+const MOST_OPERATIONS: u32 = 100_000;
 
 /// What is to be done.
 #[derive(Drop)]
@@ -35,6 +45,16 @@ pub enum Action {
     Monitor,
     /// `/replay`: print what a member does with the events of a capture.
     Replay,
+    /// `/resync`: have a service ask for the time, and wait for its result or not. It may look for its partners anew
+    /// first.
+    Resync { wait: bool, rediscover: bool },
+    /// `/query /source`: ask a service for the name of its computer.
+    QuerySource,
+    /// `/query /bits`: ask a service for what its computer announces.
+    QueryBits,
+    /// `/simulate:SEED:N`: run a member and a controller in a simulated world, by the script of this seed, for so many
+    /// operations.
+    Simulate(u32, u32),
 }
 
 /// What the words say.
@@ -53,6 +73,8 @@ pub struct Command {
     pub port: Option<u16>,
     /// The word in which the path of the clock's samples stands, behind `/clock:`.
     pub clock: Option<usize>,
+    /// The service that `/resync` and `/query` call, of `/computer:`; 127.0.0.1:49152 where no word names one.
+    pub computer: Addr,
 }
 
 /// The words spell no command.
@@ -72,9 +94,14 @@ pub struct BadWords;
 ///   `/capture:PATH`, `/port:N` and `/clock:PATH`.
 /// - `/monitor`, which requires `/config:PATH` and allows `/port:N`.
 /// - `/replay`, which requires `/config:PATH` and allows `/capture:PATH`.
+/// - `/resync`, which allows `/computer:TARGET`, `/nowait` and `/rediscover`.
+/// - `/query`, which requires `/source` or `/bits`, not both, and allows `/computer:TARGET`.
+/// - `/simulate:SEED:N`, where SEED is a decimal of at most 4,294,967,295 and N one of 1 to 100,000, both without sign or
+///   leading zero. It allows `/capture:PATH`.
 ///
 /// The options stand behind it in any order, each at most once, and no others. A path is any text that isn't empty, and
-/// N a decimal of 1 to 65,535 without sign or leading zero. All other words are `BadWords`.
+/// N a decimal of 1 to 65,535 without sign or leading zero. TARGET is `ADDRESS` or `ADDRESS:PORT`: four decimals of 0 to
+/// 255 joined by dots, and a port as N; where there is none it is 49152. All other words are `BadWords`.
 pub fn read_words(words: &Vec<String>) -> Result<Command, BadWords>
     ensures read { IfOk result (λ c. SpellsCommand c (texts words.now.items)) }
     ensures found { (c : Command) → SpellsCommand c (texts words.now.items) → result ≡ Ok c }
@@ -88,13 +115,14 @@ fn read_command(words: &Vec<String>) -> Option<Command>
     ensures found { (c : Command) → SpellsCommand c (texts words.now.items) → result ≡ Some c }
 {
     let first = words.as_slice().first()?;
-    read_options(read_action(first.as_bytes())?, words)
+    read_options(read_action(first.as_bytes(), words)?, words)
 }
 
-/// What the first word asks for.
-fn read_action(word: &[u8]) -> Option<Action>
+/// What the first word asks for. Where it begins several commands, the options say which of them.
+fn read_action(word: &[u8], words: &Vec<String>) -> Option<Action>
     ensures read { IfSome result (λ a. SpellsAction a word.now) }
-    ensures found { (a : Action) → SpellsAction a word.now → result ≡ Some a }
+    ensures found { (a : Action) → SpellsAction a word.now → SpellsFlags a (texts words.now.items)
+        → result ≡ Some a }
 {
     if let Some(text) = behind(word, b"/sign:") {
         return Some(Action::Sign(read_account(text)?));
@@ -103,17 +131,50 @@ fn read_action(word: &[u8]) -> Option<Action>
         return Some(Action::Show(read_datagram(digits)?));
     }
     if let Some(turns) = behind(word, b"/dc:") {
-        return Some(Action::Dc(read_turns(turns)?));
+        return Some(Action::Dc(read_count(turns, MOST_TURNS)?));
     }
     if let Some(turns) = behind(word, b"/member:") {
-        return Some(Action::Member(read_turns(turns)?));
+        return Some(Action::Member(read_count(turns, MOST_TURNS)?));
+    }
+    if let Some(script) = behind(word, b"/simulate:") {
+        let (seed, operations) = read_script(script)?;
+        return Some(Action::Simulate(seed, operations));
     }
     if word == MONITOR {
         Some(Action::Monitor)
     } else if word == REPLAY {
         Some(Action::Replay)
+    } else if word == RESYNC {
+        Some(read_resync(words))
+    } else if word == QUERY {
+        Some(read_query(words))
     } else {
         None
+    }
+}
+
+/// How a service is to ask for the time.
+fn read_resync(words: &Vec<String>) -> Action
+    ensures spelled { SpellsAction result (codes "/resync") }
+    ensures found { (a : Action) → SpellsAction a (codes "/resync")
+        → SpellsFlags a (texts words.now.items) → result ≡ a }
+{
+    Action::Resync {
+        wait: !is_given(words, OptionName::NoWait),
+        rediscover: is_given(words, OptionName::Rediscover),
+    }
+}
+
+/// What a service is asked. Where neither option is given it's the bits, whose option is required then.
+fn read_query(words: &Vec<String>) -> Action
+    ensures spelled { SpellsAction result (codes "/query") }
+    ensures found { (a : Action) → SpellsAction a (codes "/query")
+        → SpellsFlags a (texts words.now.items) → result ≡ a }
+{
+    if is_given(words, OptionName::Source) {
+        Action::QuerySource
+    } else {
+        Action::QueryBits
     }
 }
 
@@ -126,15 +187,28 @@ pub(crate) fn behind<'a>(word: &'a [u8], name: &[u8]) -> Option<&'a [u8]>
     word.strip_prefix(name)
 }
 
-/// A number of turns.
-fn read_turns(text: &[u8]) -> Option<u32>
-    ensures read { IfSome result (λ n. (1 ≤ n) × (n ≤ 1000000) × (text.now ≡ decimal n)) }
-    ensures found { (n : ℕ) → 1 ≤ n → n ≤ 1000000 → text.now ≡ decimal n → result ≡ Some n }
+/// A number of 1 to this one.
+fn read_count(text: &[u8], most: u32) -> Option<u32>
+    ensures read { IfSome result (λ n. (1 ≤ n) × (n ≤ most) × (text.now ≡ decimal n)) }
+    ensures found { (n : ℕ) → 1 ≤ n → n ≤ most → text.now ≡ decimal n → result ≡ Some n }
 {
     match read_decimal(text) {
-        Some(turns) if turns > 0 && turns <= MOST_TURNS => Some(turns),
+        Some(count) if count > 0 && count <= most => Some(count),
         _ => None,
     }
+}
+
+/// The seed and the number of operations of `SEED:N`.
+fn read_script(text: &[u8]) -> Option<(u32, u32)>
+    ensures read { IfSome result (λ s. SpellsScript s.0 s.1 text.now) }
+    ensures found { (seed operations : ℕ) → SpellsScript seed operations text.now
+        → result ≡ Some record { 0 = seed; 1 = operations } }
+{
+    let (seed, operations) = cut(text, b':')?;
+    Some((
+        read_decimal(seed)?,
+        read_count(operations, MOST_OPERATIONS)?,
+    ))
 }
 
 /// The account of `RID:KEY` or `RID:KEY:PREVIOUS`.

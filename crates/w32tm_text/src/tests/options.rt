@@ -1,6 +1,7 @@
 //! Words: the commands with their options, and what is none.
 use super::words_of;
 use crate::{Action, read_words};
+use edge_traits::Addr;
 use std::alloc::{AllocError, Global};
 
 /// The commands, without what stands in the words of `/sign` and `/show`.
@@ -12,6 +13,10 @@ enum Work {
     Member(u32),
     Monitor,
     Replay,
+    Resync { wait: bool, rediscover: bool },
+    QuerySource,
+    QueryBits,
+    Simulate(u32, u32),
 }
 
 fn work_of(action: &Action) -> Work {
@@ -22,12 +27,25 @@ fn work_of(action: &Action) -> Work {
         Action::Member(turns) => Work::Member(*turns),
         Action::Monitor => Work::Monitor,
         Action::Replay => Work::Replay,
+        Action::Resync { wait, rediscover } => Work::Resync {
+            wait: *wait,
+            rediscover: *rediscover,
+        },
+        Action::QuerySource => Work::QuerySource,
+        Action::QueryBits => Work::QueryBits,
+        Action::Simulate(seed, operations) => Work::Simulate(*seed, *operations),
     }
 }
 
 /// The command, the words in which the paths of the settings, the keeper's file, the capture and the clock's samples
-/// stand, and the port. What isn't named is 0: that word is the command, and no port.
-type Said = (Work, [usize; 4], u16);
+/// stand, the port, and the service that is called. What isn't named is 0: that word is the command, and no port.
+type Said = (Work, [usize; 4], u16, Addr);
+
+/// The service that is called where no word names one.
+const OWN: Addr = Addr {
+    ip: 0x7F00_0001,
+    port: 49_152,
+};
 
 fn said_by(words: &Vec<String>) -> Option<Said> {
     let command = read_words(words).ok()?;
@@ -37,7 +55,8 @@ fn said_by(words: &Vec<String>) -> Option<Said> {
         command.capture.unwrap_or(0),
         command.clock.unwrap_or(0),
     ];
-    Some((work_of(&command.action), places, command.port.unwrap_or(0)))
+    let port = command.port.unwrap_or(0);
+    Some((work_of(&command.action), places, port, command.computer))
 }
 
 const GOOD: &[(&[&str], Work, [usize; 4], u16)] = &[
@@ -280,6 +299,21 @@ const GOOD: &[(&[&str], Work, [usize; 4], u16)] = &[
         [2, 1, 0, 0],
         0,
     ),
+    // A simulation needs no settings.
+    (&["/simulate:1:2"], Work::Simulate(1, 2), [0, 0, 0, 0], 0),
+    (&["/simulate:0:1"], Work::Simulate(0, 1), [0, 0, 0, 0], 0),
+    (
+        &["/simulate:4294967295:99999"],
+        Work::Simulate(u32::MAX, 99_999),
+        [0, 0, 0, 0],
+        0,
+    ),
+    (
+        &["/simulate:1103:100000", "/capture:/config:a"],
+        Work::Simulate(1103, 100_000),
+        [0, 0, 1, 0],
+        0,
+    ),
     // The samples of a member's clock.
     (
         &["/member:3", "/config:a", "/keeper:b", "/clock:c"],
@@ -305,6 +339,70 @@ const GOOD: &[(&[&str], Work, [usize; 4], u16)] = &[
         Work::Member(3),
         [5, 4, 3, 2],
         5,
+    ),
+];
+
+// Words of commands that call a service, and the address and the port of that service.
+const CALLS: &[(&[&str], Work, u32, u16)] = &[
+    (
+        &["/resync"],
+        Work::Resync {
+            wait: true,
+            rediscover: false,
+        },
+        0x7F00_0001,
+        49_152,
+    ),
+    (
+        &["/resync", "/nowait"],
+        Work::Resync {
+            wait: false,
+            rediscover: false,
+        },
+        0x7F00_0001,
+        49_152,
+    ),
+    (
+        &["/resync", "/computer:10.0.0.1", "/rediscover"],
+        Work::Resync {
+            wait: true,
+            rediscover: true,
+        },
+        0x0A00_0001,
+        49_152,
+    ),
+    (
+        &[
+            "/resync",
+            "/rediscover",
+            "/computer:255.255.255.255:65535",
+            "/nowait",
+        ],
+        Work::Resync {
+            wait: false,
+            rediscover: true,
+        },
+        0xFFFF_FFFF,
+        65_535,
+    ),
+    (
+        &["/query", "/source"],
+        Work::QuerySource,
+        0x7F00_0001,
+        49_152,
+    ),
+    (
+        &["/query", "/computer:0.0.0.0:1", "/source"],
+        Work::QuerySource,
+        0,
+        1,
+    ),
+    (&["/query", "/bits"], Work::QueryBits, 0x7F00_0001, 49_152),
+    (
+        &["/query", "/bits", "/computer:1.2.3.4:123"],
+        Work::QueryBits,
+        0x0102_0304,
+        123,
     ),
 ];
 
@@ -354,6 +452,44 @@ const BAD_COMMANDS: &[&[&str]] = &[
     &["/REPLAY", "/config:a"],
     &["/replays", "/config:a"],
     &["/repla", "/config:a"],
+    &["/resync:"],
+    &["/resync:1"],
+    &["/Resync"],
+    &["/resyncs"],
+    &["/resyn"],
+    &["resync"],
+    &["/nowait", "/resync"],
+    &["/computer:10.0.0.1", "/resync"],
+    &["/query:", "/bits"],
+    &["/Query", "/bits"],
+    &["/querys", "/bits"],
+    &["/quer", "/bits"],
+    &["query", "/bits"],
+    &["/bits", "/query"],
+    &["/source", "/query"],
+    &["/simulate"],
+    &["/simulate:"],
+    &["/simulate:1"],
+    &["/simulate:1:"],
+    &["/simulate::2"],
+    &["/simulate:1:0"],
+    &["/simulate:1:00"],
+    &["/simulate:1:02"],
+    &["/simulate:01:2"],
+    &["/simulate:+1:2"],
+    &["/simulate:1:+2"],
+    &["/simulate:-1:2"],
+    &["/simulate:1:100001"],
+    &["/simulate:1:4294967297"],
+    &["/simulate:4294967296:2"],
+    &["/simulate:1:2:3"],
+    &["/simulate:1:2 "],
+    &["/simulate:0x1:2"],
+    &["/simulate:1", "2"],
+    &["/Simulate:1:2"],
+    &["/simulates:1:2"],
+    &["simulate:1:2"],
+    &["/capture:b", "/simulate:1:2"],
     &["", "/config:a"],
     &["/", "/config:a"],
     &["/config:a"],
@@ -366,8 +502,6 @@ const BAD_COMMANDS: &[&[&str]] = &[
     &["/bits"],
     &["/service:1"],
     &["/service:1", "/config:a"],
-    &["/resync"],
-    &["/simulate:1:2"],
     &["/relay:1"],
     &["/relay:1", "/config:a"],
     &["/vote"],
@@ -410,6 +544,45 @@ const BAD_OPTIONS: &[&[&str]] = &[
     &["/replay", "/config:a", "/capture:"],
     &["/replay", "/config:a", "/capture"],
     &["/replay", "/config:a", "/Capture:b"],
+    // What is asked for, and how.
+    &["/query", "/source", "/bits"],
+    &["/query", "/bits", "/source"],
+    &["/query", "/computer:10.0.0.1"],
+    &["/query", "/Source"],
+    &["/query", "source"],
+    &["/query", "/source:"],
+    &["/query", "/sources"],
+    &["/query", "/source "],
+    &["/query", "/bits:1"],
+    &["/query", "/bit"],
+    &["/resync", "/nowait:"],
+    &["/resync", "/nowait1"],
+    &["/resync", "/NoWait"],
+    &["/resync", "nowait"],
+    &["/resync", "/rediscover:"],
+    &["/resync", "/rediscovers"],
+    &["/resync", ""],
+    // The service that is called.
+    &["/resync", "/computer"],
+    &["/resync", "/computer:"],
+    &["/resync", "/computer:dc1"],
+    &["/resync", "/computer:10.0.0"],
+    &["/resync", "/computer:10.0.0.1.2"],
+    &["/resync", "/computer:10.0.0.256"],
+    &["/resync", "/computer:01.2.3.4"],
+    &["/resync", "/computer:+1.2.3.4"],
+    &["/resync", "/computer:1.2.3."],
+    &["/resync", "/computer: 10.0.0.1"],
+    &["/resync", "/computer:10.0.0.1 "],
+    &["/resync", "/computer:10.0.0.1:"],
+    &["/resync", "/computer:10.0.0.1:0"],
+    &["/resync", "/computer:10.0.0.1:65536"],
+    &["/resync", "/computer:10.0.0.1:0123"],
+    &["/resync", "/computer:10.0.0.1:+5"],
+    &["/resync", "/computer:10.0.0.1:5:6"],
+    &["/resync", "/computer::5"],
+    &["/resync", "/Computer:10.0.0.1"],
+    &["/query", "/bits", "/computer:10.0.0.1:0"],
     // A port.
     &["/dc:1", "/config:a", "/port:0"],
     &["/dc:1", "/config:a", "/port:65536"],
@@ -462,6 +635,45 @@ const FOREIGN_OPTIONS: &[&[&str]] = &[
     &["/dc:1", "/config:a", "/clock:c"],
     &["/monitor", "/config:a", "/clock:c"],
     &["/replay", "/config:a", "/clock:c"],
+    &["/query", "/source", "/source"],
+    &["/query", "/bits", "/bits"],
+    &["/resync", "/nowait", "/nowait"],
+    &["/resync", "/rediscover", "/nowait", "/rediscover"],
+    &["/resync", "/computer:10.0.0.1", "/computer:10.0.0.1"],
+    &[
+        "/query",
+        "/computer:10.0.0.1",
+        "/bits",
+        "/computer:10.0.0.2",
+    ],
+    &["/resync", "/source"],
+    &["/resync", "/bits"],
+    &["/resync", "/config:a"],
+    &["/resync", "/port:5"],
+    &["/resync", "/capture:c"],
+    &["/resync", "/resync"],
+    &["/query", "/source", "/nowait"],
+    &["/query", "/bits", "/rediscover"],
+    &["/query", "/bits", "/config:a"],
+    &["/query", "/bits", "/port:5"],
+    &["/dc:1", "/config:a", "/computer:10.0.0.1"],
+    &["/dc:1", "/config:a", "/nowait"],
+    &["/member:1", "/config:a", "/keeper:b", "/rediscover"],
+    &["/member:1", "/config:a", "/keeper:b", "/computer:10.0.0.1"],
+    &["/monitor", "/config:a", "/source"],
+    &["/replay", "/config:a", "/bits"],
+    &["/sign:1103:00000000000000000000000000000000", "/nowait"],
+    &["/show:00", "/computer:10.0.0.1"],
+    &["/simulate:1:2", "/config:a"],
+    &["/simulate:1:2", "/keeper:b"],
+    &["/simulate:1:2", "/port:5"],
+    &["/simulate:1:2", "/clock:c"],
+    &["/simulate:1:2", "/computer:10.0.0.1"],
+    &["/simulate:1:2", "/nowait"],
+    &["/simulate:1:2", "/capture:a", "/capture:b"],
+    &["/simulate:1:2", "/capture:"],
+    &["/simulate:1:2", "3"],
+    &["/simulate:1:2", "/simulate:1:2"],
     &["/member:1", "/config:a", "/keeper:b", "/rpcport:5"],
     &["/member:1", "/config:a", "/keeper:b", "/member:1"],
     &["/member:1", "/config:a", "/keeper:b", ""],
@@ -513,7 +725,20 @@ const BAD_WORDS: &[&[&str]] = &[
 fn words_of_commands(rt: HostRuntime) -> Result<(), AllocError> {
     for (texts, work, places, port) in GOOD {
         let said = said_by(&words_of(rt.alloc(), texts)?);
-        assert_eq!(rt; said, Some((*work, *places, *port)), "{texts:?}");
+        assert_eq!(rt; said, Some((*work, *places, *port, OWN)), "{texts:?}");
+    }
+    Ok(())
+}
+
+#[test]
+fn words_of_calls(rt: HostRuntime) -> Result<(), AllocError> {
+    for (texts, work, ip, port) in CALLS {
+        let said = said_by(&words_of(rt.alloc(), texts)?);
+        let called = Addr {
+            ip: *ip,
+            port: *port,
+        };
+        assert_eq!(rt; said, Some((*work, [0; 4], 0, called)), "{texts:?}");
     }
     Ok(())
 }

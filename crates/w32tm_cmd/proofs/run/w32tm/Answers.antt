@@ -1,8 +1,10 @@
 use Rattle.std.proofs.Common.{◌≡◌, refl}
-use Rattle.w32tm_text.specs.declared.words.Action.TheVariants.{Sign, Show, Dc, Member, Monitor, Replay}
+use Rattle.w32tm_text.specs.declared.words.Action.{Action}
+use Rattle.w32tm_text.specs.declared.words.Action.TheVariants.{Sign, Show, Dc, Member, Monitor, Replay, Resync, QuerySource, QueryBits, Simulate}
 use Rattle.w32tm_cmd.proofs.Commands.{is_read, same_action}
 use Rattle.w32tm_cmd.proofs.Showing as showing
 use Rattle.w32tm_cmd.proofs.Signing as signing
+use Rattle.w32tm_cmd.proofs.Simulating as simulating
 use Rattle.w32tm_cmd.proofs.run.w32tm.Goals as goal
 
 -- words that spell a command are read
@@ -40,6 +42,30 @@ returns-in-Err-clause-replay g c is_replay = absurd (is_read Replay _ _ is_repla
 pub returns-in-Err-clause-replay_touches : goal.returns-in-Err-clause-replay_touches
 returns-in-Err-clause-replay_touches g c is_replay = absurd (is_read Replay _ _ is_replay c.in-Err.ensures.found)
 
+pub returns-in-Err-clause-resync : goal.returns-in-Err-clause-resync
+returns-in-Err-clause-resync g c wait rediscover is_resync = absurd (is_read (Resync wait rediscover) _ _ is_resync c.in-Err.ensures.found)
+
+pub returns-in-Err-clause-resync_touches : goal.returns-in-Err-clause-resync_touches
+returns-in-Err-clause-resync_touches g c wait rediscover is_resync = absurd (is_read (Resync wait rediscover) _ _ is_resync c.in-Err.ensures.found)
+
+pub returns-in-Err-clause-query_source : goal.returns-in-Err-clause-query_source
+returns-in-Err-clause-query_source g c is_query = absurd (is_read QuerySource _ _ is_query c.in-Err.ensures.found)
+
+pub returns-in-Err-clause-query_source_touches : goal.returns-in-Err-clause-query_source_touches
+returns-in-Err-clause-query_source_touches g c is_query = absurd (is_read QuerySource _ _ is_query c.in-Err.ensures.found)
+
+pub returns-in-Err-clause-query_bits : goal.returns-in-Err-clause-query_bits
+returns-in-Err-clause-query_bits g c is_query = absurd (is_read QueryBits _ _ is_query c.in-Err.ensures.found)
+
+pub returns-in-Err-clause-query_bits_touches : goal.returns-in-Err-clause-query_bits_touches
+returns-in-Err-clause-query_bits_touches g c is_query = absurd (is_read QueryBits _ _ is_query c.in-Err.ensures.found)
+
+pub returns-in-Err-clause-simulate : goal.returns-in-Err-clause-simulate
+returns-in-Err-clause-simulate g c seed operations is_simulate = absurd (is_read (Simulate seed operations) _ _ is_simulate c.in-Err.ensures.found)
+
+pub returns-in-Err-clause-simulate_touches : goal.returns-in-Err-clause-simulate_touches
+returns-in-Err-clause-simulate_touches g c seed operations is_simulate = absurd (is_read (Simulate seed operations) _ _ is_simulate c.in-Err.ensures.found)
+
 -- `/sign` was carried out for the account of the words
 pub returns-in-Sign-clause-sign : goal.returns-in-Sign-clause-sign
 returns-in-Sign-clause-sign g c account is_sign =
@@ -68,3 +94,32 @@ returns-in-Dc-clause-dc g c turns is_dc =
     let action = same_action (Dc turns) _ c.in-Ok.command is_dc c.in-Ok.ensures.found in
     let same : c.in-Dc.turns ≡ turns = cc (action, c.in-Dc.is) in
     rw same at c.serve_requests.ensures.dc
+
+-- `/resync` with the options of the words
+pub returns-in-Resync-clause-resync : goal.returns-in-Resync-clause-resync
+returns-in-Resync-clause-resync g c wait rediscover is_resync =
+    let action = same_action (Resync wait rediscover) _ c.in-Ok.command is_resync c.in-Ok.ensures.found in
+    let waits : c.in-Resync.wait ≡ wait = cc (action, c.in-Resync.is) in
+    let looks : c.in-Resync.rediscover ≡ rediscover = cc (action, c.in-Resync.is) in
+    rw (waits, looks) at (rw c.sync_call.ensures at c.ask_computer.ensures.ask)
+
+-- each of the two is no command of the other
+pub returns-in-QuerySource-clause-query_bits : goal.returns-in-QuerySource-clause-query_bits
+returns-in-QuerySource-clause-query_bits g c is_bits =
+    let action = same_action QueryBits _ c.in-Ok.command is_bits c.in-Ok.ensures.found in
+    let wrong : ◌≡◌ {A = Action} QuerySource QueryBits = cc (action, c.in-QuerySource.is) in
+    absurd (cc wrong)
+
+pub returns-in-QueryBits-clause-query_source : goal.returns-in-QueryBits-clause-query_source
+returns-in-QueryBits-clause-query_source g c is_source =
+    let action = same_action QuerySource _ c.in-Ok.command is_source c.in-Ok.ensures.found in
+    let wrong : ◌≡◌ {A = Action} QuerySource QueryBits = cc (action, c.in-QueryBits.is) in
+    absurd (cc wrong)
+
+-- `/simulate` for the seed and the operations of the words
+pub returns-in-Simulate-clause-simulate : goal.returns-in-Simulate-clause-simulate
+returns-in-Simulate-clause-simulate g c seed operations is_simulate =
+    let action = same_action (Simulate seed operations) _ c.in-Ok.command is_simulate c.in-Ok.ensures.found in
+    let seeds : c.in-Simulate.seed ≡ seed = cc (action, c.in-Simulate.is) in
+    let counts : c.in-Simulate.operations ≡ operations = cc (action, c.in-Simulate.is) in
+    simulating.promises seed operations _ _ c.simulate_world.result (rw (seeds, counts) at c.simulate_world.ensures.simulate)
