@@ -10,7 +10,11 @@ use std::test::Fail;
 use w32tm_cmd::Status;
 
 /// Words; the replies of the session; and what is wanted.
-type Row = (&'static [&'static str], &'static [&'static [u8]], Want);
+type Row = (
+    &'static [&'static str],
+    &'static [&'static [u8]],
+    Want<'static>,
+);
 
 const DONE: &[u8] = b"The command completed successfully.\n";
 
@@ -146,7 +150,7 @@ fn is_refused(
     alloc: Global,
     words: &[&str],
     replies: &[&[u8]],
-    call: &'static [u8],
+    call: &[u8],
 ) -> Result<(), Fail> {
     let ran = ran_of(alloc, words, replies, 500, &[])?;
     expect(

@@ -8,7 +8,7 @@ use w32tm_cmd::Status;
 
 /// What is wanted of a run: its status, what is printed, and what is written to the one session in two writes. Where both
 /// are empty, no session is opened or nothing is written.
-pub(crate) type Want = (Status, &'static [u8], [&'static [u8]; 2]);
+pub(crate) type Want<'a> = (Status, &'a [u8], [&'a [u8]; 2]);
 
 /// Both values are the same in this case.
 pub(crate) fn same<T: PartialEq + Debug, C: Debug>(rt: &impl Abort, got: &T, want: &T, case: &C) {
@@ -38,10 +38,26 @@ pub(crate) fn ran_of(
     failing: &[(Device, u64)],
 ) -> Result<Ran, Fail> {
     let session = joined(alloc, replies)?;
-    let sessions = [session.as_slice(), b"another"];
+    let sessions = both(session.as_slice(), b"another");
+    run_of(alloc, words, &sessions, &[size], failing)
+}
+
+/// The bytes of two sessions.
+fn both<'a>(session: &'a [u8], another: &'a [u8]) -> [&'a [u8]; 2] {
+    [session, another]
+}
+
+/// A run with these sessions, in pieces of the first size. One of the calls may fail.
+fn run_of<'a>(
+    alloc: Global,
+    words: &[&str],
+    sessions: &'a [&'a [u8]],
+    pieces: &'a [usize],
+    failing: &'a [(Device, u64)],
+) -> Result<Ran, Fail> {
     let script = Script {
-        sessions: &sessions,
-        pieces: &[size],
+        sessions,
+        pieces,
         failing,
         ..STEADY
     };

@@ -8,7 +8,7 @@ use test_scripts::{Device, STEADY, run};
 use w32tm_cmd::Status;
 
 /// A device and the number of its call that fails; and what is wanted.
-type Fault = (Device, u64, Want);
+type Fault = (Device, u64, Want<'static>);
 
 const LINE: &[u8] = b"The computer did not resync because no time data was available.\n";
 
