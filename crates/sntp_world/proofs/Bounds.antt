@@ -1,5 +1,5 @@
 -- The bound of a correction, as arithmetic on the readings of two clocks.
-use Rattle.std.proofs.Common.{◌≡◌, ℕ, suc, ◌+◌, ◌*◌, ◌-◌, ◌/◌, ◌<◌, ◌≤◌, ◌^◌, ℤ, pos, negsuc, ◌+ℤ◌, ◌-ℤ◌, ◌≤ℤ◌, arith}
+use Rattle.std.proofs.Common.{◌≡◌, ℕ, suc, ◌+◌, ◌*◌, ◌-◌, ◌/◌, ◌<◌, ◌≤◌, ◌^◌, ℤ, pos, negsuc, ◌+ℤ◌, ◌-ℤ◌, ◌≤ℤ◌, arith, refl}
 use Rattle.std.specs.Prelude.{nat_abs, int_div}
 use Rattle.std.proofs.lemmas.Int.{ints}
 use Rattle.ntp_wire.specs.Stamp.{IsInReach, IsStampOf, ticks_of}
@@ -112,7 +112,8 @@ close_passed d e f at close =
   where
     close_by : (m c d e f : ℤ) (n x y s : ℕ) → (c -ℤ m) ≤ℤ pos n → (pos 0 -ℤ (c -ℤ m)) ≤ℤ pos n → e ≤ℤ pos x → (pos 0 -ℤ e) ≤ℤ pos x → f ≤ℤ pos y → (pos 0 -ℤ f) ≤ℤ pos y
         → n ≤ 100000000 + s → nat_abs ((c +ℤ (d +ℤ f)) -ℤ (m +ℤ (d +ℤ e))) ≤ 100000000 + (s + (x + y))
-    close_by m c d e f n x y s up down e_up e_down f_up f_down close = size_at_most _ _ (omega (arith, ints)) (omega (arith, ints))
+    close_by m c d e f n x y s up down e_up e_down f_up f_down close =
+        size_at_most ((c +ℤ (d +ℤ f)) -ℤ (m +ℤ (d +ℤ e))) (100000000 + (s + (x + y))) (omega (arith, ints)) (omega (arith, ints))
 
 -- the nearest reading is no further from a reading
 record IsNoFurther (c t r : ℤ) (n : ℕ) : Type 0 where
@@ -136,4 +137,4 @@ close_moved c at bound soon ahead came low high =
     let further = nearest_no_further at.controller (at.member +ℤ c.offset) (nat_abs e) low high (omega (arith, ints, above, below, ahead)) (omega (arith, ints, above, below, ahead)) in
     let up = further.up in
     let down = further.down in
-    size_at_most _ _ (omega (arith, ints)) (omega (arith, ints))
+    size_at_most (at.controller -ℤ nearest_reading (at.member +ℤ c.offset)) (100000000 + at.uneven) (omega (arith, ints)) (omega (arith, ints))
