@@ -1,5 +1,5 @@
 //! Laws of the world.
-ghost use Rattle.sntp_world.specs.Accuracy.{LawOfReplies, LawOfRunning, LawOfStamps};
+ghost use Rattle.sntp_world.specs.Accuracy.{LawOfAccuracy, LawOfReplies, LawOfRunning, LawOfStamps};
 ghost use Rattle.sntp_world.specs.Laws.{LawOfClocks, LawOfHistories, LawOfPackets, LawOfRequests};
 
 /// What holds of each world, whatever operations led to it.
@@ -11,4 +11,5 @@ pub fn laws_of_worlds()
     ensures stamps { LawOfStamps }
     ensures replies { LawOfReplies }
     ensures running { LawOfRunning }
+    ensures accuracy { LawOfAccuracy }
 {}

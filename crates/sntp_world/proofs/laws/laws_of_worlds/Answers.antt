@@ -5,7 +5,7 @@ use Rattle.ms_auth.specs.Fields.{kind_length}
 use Rattle.time_machine.specs.Machine.{told}
 use Rattle.time_machine.proofs.Open.{open_at}
 use Rattle.sntp_world.specs.declared.packet.Packet.{Packet}
-use Rattle.sntp_world.specs.Accuracy.{LawOfReplies, LawOfRunning, LawOfStamps}
+use Rattle.sntp_world.specs.Accuracy.{LawOfAccuracy, LawOfReplies, LawOfRunning, LawOfStamps}
 use Rattle.sntp_world.specs.Laws.{IsPacketOf, LawOfClocks, LawOfHistories, LawOfPackets, LawOfRequests}
 use Rattle.sntp_world.specs.Setting.{world_conf}
 use Rattle.sntp_world.proofs.Cases.{lives_always}
@@ -14,6 +14,7 @@ use Rattle.sntp_world.proofs.Allowed.{always_allowed, was_requested, was_sent}
 use Rattle.sntp_world.proofs.Stamps.{stamps_always}
 use Rattle.sntp_world.proofs.Made.{made_always}
 use Rattle.sntp_world.proofs.Ongoing.{ongoing_always}
+use Rattle.sntp_world.proofs.Accurate.{accurate_near}
 use Rattle.sntp_world.proofs.Packets.{packets_always}
 use Rattle.sntp_world.proofs.Requests.{requests_always}
 use Rattle.sntp_world.proofs.laws.laws_of_worlds.Goals as goal
@@ -52,5 +53,8 @@ running : LawOfRunning
 running ops w r p is o of =
     ((ongoing_always ops w is).ongoing r p ((open_at world_conf (told world_conf w.history) r).0 o) of.sent of.asks of.stamp).runs
 
+accuracy : LawOfAccuracy
+accuracy ops w is near = (accurate_near ops w near is).bounds
+
 pub returns : goal.returns
-returns c = record { histories = histories; clocks = clocks; packets = packets; requests = requests; stamps = stamps; replies = replies; running = running }
+returns c = record { histories = histories; clocks = clocks; packets = packets; requests = requests; stamps = stamps; replies = replies; running = running; accuracy = accuracy }
