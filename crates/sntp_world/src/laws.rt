@@ -1,5 +1,5 @@
 //! Laws of the world.
-ghost use Rattle.sntp_world.specs.Accuracy.{LawOfAccuracy, LawOfReplies, LawOfRunning, LawOfStamps};
+ghost use Rattle.sntp_world.specs.Accuracy.{LawOfAccuracy, LawOfNearness, LawOfReplies, LawOfRunning, LawOfStamps};
 ghost use Rattle.sntp_world.specs.Laws.{LawOfClocks, LawOfHistories, LawOfPackets, LawOfRequests};
 
 /// What holds of each world, whatever operations led to it.
@@ -12,4 +12,5 @@ pub fn laws_of_worlds()
     ensures replies { LawOfReplies }
     ensures running { LawOfRunning }
     ensures accuracy { LawOfAccuracy }
+    ensures nearness { LawOfNearness }
 {}

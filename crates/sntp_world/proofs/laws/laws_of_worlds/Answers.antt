@@ -5,7 +5,7 @@ use Rattle.ms_auth.specs.Fields.{kind_length}
 use Rattle.time_machine.specs.Machine.{told}
 use Rattle.time_machine.proofs.Open.{open_at}
 use Rattle.sntp_world.specs.declared.packet.Packet.{Packet}
-use Rattle.sntp_world.specs.Accuracy.{LawOfAccuracy, LawOfReplies, LawOfRunning, LawOfStamps}
+use Rattle.sntp_world.specs.Accuracy.{LawOfAccuracy, LawOfNearness, LawOfReplies, LawOfRunning, LawOfStamps}
 use Rattle.sntp_world.specs.Laws.{IsPacketOf, LawOfClocks, LawOfHistories, LawOfPackets, LawOfRequests}
 use Rattle.sntp_world.specs.Setting.{world_conf}
 use Rattle.sntp_world.proofs.Cases.{lives_always}
@@ -15,6 +15,7 @@ use Rattle.sntp_world.proofs.Stamps.{stamps_always}
 use Rattle.sntp_world.proofs.Made.{made_always}
 use Rattle.sntp_world.proofs.Ongoing.{ongoing_always}
 use Rattle.sntp_world.proofs.Accurate.{accurate_near}
+use Rattle.sntp_world.proofs.Nearness.{near_little, not_negative, script_near}
 use Rattle.sntp_world.proofs.Packets.{packets_always}
 use Rattle.sntp_world.proofs.Requests.{requests_always}
 use Rattle.sntp_world.proofs.laws.laws_of_worlds.Goals as goal
@@ -56,5 +57,8 @@ running ops w r p is o of =
 accuracy : LawOfAccuracy
 accuracy ops w is near = (accurate_near ops w near is).bounds
 
+nearness : LawOfNearness
+nearness ops w is few = near_little ops w is few
+
 pub returns : goal.returns
-returns c = record { histories = histories; clocks = clocks; packets = packets; requests = requests; stamps = stamps; replies = replies; running = running; accuracy = accuracy }
+returns c = record { histories = histories; clocks = clocks; packets = packets; requests = requests; stamps = stamps; replies = replies; running = running; accuracy = accuracy; nearness = nearness }
