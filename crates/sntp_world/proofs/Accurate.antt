@@ -57,7 +57,7 @@ by_times : (sent came : Moment) (made t2 t3 offset : ℤ) → t2 ≡ made → t3
     → IsGood (record { offset = offset; ahead = came.controller -ℤ came.member; delay = delay_of sent.member t2 t3 came.member; sent = sent.uneven; came = came.uneven })
 by_times sent came made t2 t3 offset first next is good =
     let Good : ℤ → ℤ → ℤ → Type 0 = λ (a b o : ℤ).
-        IsGood (record { offset = o; ahead = came.controller -ℤ came.member; delay = delay_of sent.member a b came.member; sent = sent.uneven; came = came.uneven }) in
+    IsGood (record { offset = o; ahead = came.controller -ℤ came.member; delay = delay_of sent.member a b came.member; sent = sent.uneven; came = came.uneven }) in
     subst (Good t2 t3) is
     (subst (λ (b : ℤ). Good t2 b (offset_of sent.member t2 b came.member)) (sym next)
     (subst (λ (a : ℤ). Good a made (offset_of sent.member a made came.member)) (sym first) good))
@@ -67,10 +67,10 @@ pub corrects : (w : State) (bytes : List ℕ) (offset : ℤ) (request : Packet) 
 corrects w bytes offset request has requests nears honest p answered =
     let q = was_sent w bytes honest (record { kind = Short; size = p.whole; digest = p.digest }) in
     let goes = goes_back q.packet.to (λ (asks : q.packet.to ≡ to.Controller).
-        let three = has.made.stamps.stamped.modes q.packet q.sent asks in
-        let same = ap mode_of q.same in
-        let four = p.mode in
-        omega arith) in
+    let three = has.made.stamps.stamped.modes q.packet q.sent asks in
+    let same = ap mode_of q.same in
+    let four = p.mode in
+    omega arith) in
     let long : length q.packet.bytes ≡ 48 → ⊥ = λ (e : length q.packet.bytes ≡ 48). let same = ap length q.same in let whole = p.whole in omega arith in
     let made = has.made.made q.packet q.sent goes long in
     let back : originate_of q.packet.bytes ≡ transmit_of request.bytes = ap originate_of q.same ∙ sym answered.answered in
@@ -155,9 +155,17 @@ near_now : (ops : List Op) (w : State) → StayNear ops → WorldAfter ops w →
 near_now [] w near is = subst (λ (s : State). AreNear s.now) (sym is) first_near
 near_now (op ∷ ops) w near is = near.0 w is
 
+-- one operation more
+next : (op : Op) (ops : List Op) (w : State) → StayNear ops → (is : WorldAfter (op ∷ ops) w) → HasAccurate is.0 → HasAccurate w
+next op ops w near is so_far =
+    let before = is.0 in
+    let step = accurate_led before (ongoing_always ops before is.2) (requests_always ops before is.2) (near_now ops before near is.2) so_far in
+    led_allowed HasAccurate op before is.1 w step (lives_always ops before is.2) is.3
+
 pub accurate_near : (ops : List Op) (w : State) → StayNear ops → WorldAfter ops w → HasAccurate w
 accurate_near [] w near is = subst HasAccurate (sym is) first_accurate
-accurate_near (op ∷ ops) w near is =
-    let before = is.0 in
-    let step = accurate_led before (ongoing_always ops before is.2) (requests_always ops before is.2) (near_now ops before near.1 is.2) (accurate_near ops before near.1 is.2) in
-    led_allowed HasAccurate op before is.1 w step (lives_always ops before is.2) is.3
+accurate_near (op ∷ ops) w near is = next op ops w near.1 is (accurate_near ops is.0 near.1 is.2)
+
+-- where they were near until the last operation, that one is accurate too
+pub accurate_next : (op : Op) (ops : List Op) (w : State) → StayNear ops → WorldAfter (op ∷ ops) w → HasAccurate w
+accurate_next op ops w near is = next op ops w near is (accurate_near ops is.0 near is.2)

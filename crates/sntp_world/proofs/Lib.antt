@@ -30,3 +30,4 @@ pub mod Made
 pub mod Ongoing
 pub mod Accurate
 pub mod Nearness
+pub mod Bounded

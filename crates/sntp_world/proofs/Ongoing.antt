@@ -101,13 +101,13 @@ new_ongoing : (w : State) (count : ℕ) (bytes : List ℕ) (p : Packet) → HasM
 unfolding sent_now
 new_ongoing w count bytes p has new there asks seconds = elim (first_or (sent_now w bytes) w.packets p there) [
   | inl e ↦ record {
-      runs = subst (λ (x : Packet). RunOn x.at w.now) e (runs_same w.now);
-      replies = λ (q : Packet) (d : Contains (sent_now w bytes ∷ w.packets) q) (goes : q.to ≡ to.Member) (long : length q.bytes ≡ 48 → ⊥) (answers : originate_of q.bytes ≡ transmit_of p.bytes).
-          elim (first_or (sent_now w bytes) w.packets q d) [
-            | inl f ↦ let h = ap (λ (x : Packet). x.to) f ∙ goes in absurd (let no : ⊥ = cc in no)
-            | inr l ↦ absurd (no_reply w count bytes q has new l goes long (ap (λ (s : Stamp). s.seconds) answers ∙ seconds))
-          ];
-    }
+    runs = subst (λ (x : Packet). RunOn x.at w.now) e (runs_same w.now);
+    replies = λ (q : Packet) (d : Contains (sent_now w bytes ∷ w.packets) q) (goes : q.to ≡ to.Member) (long : length q.bytes ≡ 48 → ⊥) (answers : originate_of q.bytes ≡ transmit_of p.bytes).
+        elim (first_or (sent_now w bytes) w.packets q d) [
+          | inl f ↦ let h = ap (λ (x : Packet). x.to) f ∙ goes in absurd (let no : ⊥ = cc in no)
+          | inr l ↦ absurd (no_reply w count bytes q has new l goes long (ap (λ (s : Stamp). s.seconds) answers ∙ seconds))
+        ];
+  }
   | inr k ↦ let low = (has.stamps.packets.sound p k).counted asks in let above = new.above in absurd (omega arith)
 ]
 

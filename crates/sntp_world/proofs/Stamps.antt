@@ -93,10 +93,10 @@ request_more packets at greatest count bytes are low mode seconds above =
     let new : Packet = record { to = to.Controller; bytes = bytes; at = at } in
     let first : (p q : Packet) → new ≡ p → Contains packets q → q.to ≡ to.Controller → transmit_of p.bytes ≡ transmit_of q.bytes → ⊥ =
     λ (p q : Packet) (e : new ≡ p) (k : Contains packets q) (asks : q.to ≡ to.Controller) (same : transmit_of p.bytes ≡ transmit_of q.bytes).
-        let few = low q k asks in
-        let n = ap (λ (x : Packet). (transmit_of x.bytes).seconds) e in
-        let m = ap (λ (s : Stamp). s.seconds) same in
-        omega arith in
+    let few = low q k asks in
+    let n = ap (λ (x : Packet). (transmit_of x.bytes).seconds) e in
+    let m = ap (λ (s : Stamp). s.seconds) same in
+    omega arith in
     record {
       modes = λ (p : Packet) (c : Contains (new ∷ packets) p) (asks : p.to ≡ to.Controller). elim (first_or new packets p c) [
         | inl e ↦ ap (λ (x : Packet). mode_of x.bytes) (sym e) ∙ mode

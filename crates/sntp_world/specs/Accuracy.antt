@@ -12,6 +12,7 @@ use Rattle.sntp_world.specs.declared.packet.Destination.TheVariants as to
 use Rattle.sntp_world.specs.declared.packet.Packet.{Packet}
 use Rattle.sntp_world.specs.Laws.{IsPacketOf}
 use Rattle.sntp_world.specs.Setting.{world_conf}
+use Rattle.sntp_world.specs.Standing.{Keeps, Kept}
 use Rattle.sntp_world.specs.State.{Correction, State}
 use Rattle.sntp_world.specs.Steps.{AreNear, HasAccountDigest, StayNear, WorldAfter}
 
@@ -26,6 +27,12 @@ IsWithinBound c = pos (2 * nat_abs (c.offset -ℤ c.ahead)) ≤ℤ (c.delay +ℤ
 abbrev pub IsNotNegative : Option ℤ → Type 0
 IsNotNegative None = ⊤
 IsNotNegative (Some slack) = pos 0 ≤ℤ slack
+
+-- Each correction of each state that these operations led to, and that a world keeps, is within its bound, and the least
+-- slack that it keeps isn't negative.
+pub record KeepsBounds (ops : List Op) (k : Kept) : Type 0 where
+  pub bounds : (w : State) → WorldAfter ops w → Keeps k w → All IsWithinBound w.corrections
+  pub not_negative : IsNotNegative k.slack
 
 -- Where both clocks stay within 68 years of each other, each correction is within its bound, whatever strangers and the
 -- net do.
