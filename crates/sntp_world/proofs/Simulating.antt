@@ -257,6 +257,7 @@ carried_out seed n put t k slack before now is faults least out counts short =
     let many : length script ≡ n = length-reverse (script_of seed n) ∙ script_length seed n in
     let totals : AreTotals n w t = subst (λ (m : ℕ). AreTotals m w t) many is.totals in
     let bounds = script_bounds seed n w short is.after in
+    let summary = summed n w t slack totals (least w is.keeps) in
     record {
       captured = records_of w.history;
       printed = lines_of t slack;
@@ -264,9 +265,9 @@ carried_out seed n put t k slack before now is faults least out counts short =
         state = w;
         after = is.after;
         capture = record { fits = events_fit script w fits is.after; written = refl };
-        summary = summed n w t slack totals (least w is.keeps);
+        summary = summary;
         accurate = bounds;
-        never_negative = not_negative w.corrections slack (least w is.keeps) bounds;
+        never_negative = not_negative w.corrections summary.slack summary.least bounds;
       };
       ends = ended (records_of w.history) (lines_of t slack) put before now is.written faults out counts;
     }
