@@ -36,6 +36,7 @@ use Rattle.sntp_world.proofs.Histories.{Lives}
 use Rattle.sntp_world.proofs.Ongoing.{HasOngoing, ongoing_always}
 use Rattle.sntp_world.proofs.Packets.{first_or}
 use Rattle.sntp_world.proofs.Requests.{HasRequests, requests_always}
+use Rattle.sntp_world.proofs.Stamps.{one_request}
 
 -- ---- One correction
 
@@ -74,7 +75,7 @@ corrects w bytes offset request has requests nears honest p answered =
     let long : length q.packet.bytes ≡ 48 → ⊥ = λ (e : length q.packet.bytes ≡ 48). let same = ap length q.same in let whole = p.whole in omega arith in
     let made = has.made.made q.packet q.sent goes long in
     let back : originate_of q.packet.bytes ≡ transmit_of request.bytes = ap originate_of q.same ∙ sym answered.answered in
-    let one : made.request ≡ request = has.made.stamps.stamped.one made.request request made.sent answered.sent made.asks answered.asks (sym made.answers ∙ back) in
+    let one : made.request ≡ request = one_request w.packets made.request request has.made.stamps.stamped.rise made.sent answered.sent made.asks answered.asks (sym made.answers ∙ back) in
     let before = subst (λ (x : Packet). x.at.controller ≤ℤ q.packet.at.controller) one made.before in
     let brought = brought_back w.now.member (originate_of bytes) p.request p.answers in
     let is = has.ongoing p.request request p.opened answered.sent answered.asks (answered.answered ∙ brought) in

@@ -1,8 +1,9 @@
 -- No timestamp is sent twice, and the controller's clock never ran backward.
 use Rattle.std.proofs.Common.{◌≡◌, ◌⊎◌, ℕ, ◌+◌, ◌<◌, ◌≤◌, ◌^◌, List, [], ◌∷◌, length, inl, inr, refl, subst, sym, ◌∙◌, ap, arith, ℤ}
-use Rattle.std.specs.Prelude.{◌≤ℤ◌}
+use Rattle.std.specs.Prelude.{◌≤ℤ◌, All}
 use Rattle.std.specs.List.{Contains}
 use Rattle.std.proofs.lemmas.Int.{ints}
+use Rattle.std.proofs.lemmas.List.Elements.{All-contains, All-contains_itself}
 use Rattle.capture_fmt.specs.declared.event.Event.{Event}
 use Rattle.capture_fmt.specs.declared.event.Event.TheVariants.{Life, Tick, Resync, Arrive}
 use Rattle.dc_sign.specs.declared.outcome.Answer.{Answer}
@@ -20,6 +21,7 @@ use Rattle.sntp_world.specs.declared.op.Op.{Op}
 use Rattle.sntp_world.specs.declared.op.Effect.{Effect}
 use Rattle.sntp_world.specs.declared.packet.Destination.TheVariants as to
 use Rattle.sntp_world.specs.declared.packet.Packet.{Packet}
+use Rattle.sntp_world.specs.Accuracy.{CountsRise}
 use Rattle.sntp_world.specs.Setting.{world_conf, world_rid}
 use Rattle.sntp_world.specs.State.{State, first_state}
 use Rattle.sntp_world.specs.Steps.{Asks, Leaves, MayPass, Passes, Skips, WorldAfter, packets_after, passed, words_in}
@@ -50,16 +52,43 @@ new_request w e count bytes lives sent fits =
 
 -- ---- Packets
 
+-- what each element has, all have
+each : (P : Packet → Type 0) (ps : List Packet) → ((q : Packet) → Contains ps q → P q) → All P ps
+each P ps has k d below = has _ (All-contains_itself ps k d below)
+
+-- where counts rise, two requests with one timestamp are one
+pub one_request : (ps : List Packet) (p q : Packet) → CountsRise ps → Contains ps p → Contains ps q → p.to ≡ to.Controller → q.to ≡ to.Controller
+    → transmit_of p.bytes ≡ transmit_of q.bytes → p ≡ q
+one_request [] p q rise c d asks also same = absurd (omega (arith, c.1))
+one_request (x ∷ ps) p q rise c d asks also same = elim (first_or x ps p c) [
+  | inl e ↦ elim (first_or x ps q d) [
+    | inl f ↦ sym e ∙ f
+    | inr k ↦ absurd (not_later x ps p q (rise.0 (ap (λ (y : Packet). y.to) e ∙ asks)) e k also same)
+  ]
+  | inr k ↦ elim (first_or x ps q d) [
+    | inl f ↦ absurd (not_later x ps q p (rise.0 (ap (λ (y : Packet). y.to) f ∙ also)) f k asks (sym same))
+    | inr l ↦ one_request ps p q rise.1 k l asks also same
+  ]
+]
+  where
+    not_later : (x : Packet) (ps : List Packet) (p q : Packet) → All (λ (y : Packet). y.to ≡ to.Controller → (transmit_of y.bytes).seconds < (transmit_of x.bytes).seconds) ps
+        → x ≡ p → Contains ps q → q.to ≡ to.Controller → transmit_of p.bytes ≡ transmit_of q.bytes → ⊥
+    not_later x ps p q above e k also same =
+        let few = All-contains (λ (y : Packet). y.to ≡ to.Controller → (transmit_of y.bytes).seconds < (transmit_of x.bytes).seconds) ps q above k also in
+        let n = ap (λ (y : Packet). (transmit_of y.bytes).seconds) e in
+        let m = ap (λ (s : Stamp). s.seconds) same in
+        omega arith
+
 -- what holds of packets until a moment
 pub record AreStamped (packets : List Packet) (now : ℤ) : Type 0 where
   pub modes : (p : Packet) → Contains packets p → p.to ≡ to.Controller → mode_of p.bytes ≡ 3
-  pub one : (p q : Packet) → Contains packets p → Contains packets q → p.to ≡ to.Controller → q.to ≡ to.Controller → transmit_of p.bytes ≡ transmit_of q.bytes → p ≡ q
+  pub rise : CountsRise packets
   pub before : (p : Packet) → Contains packets p → p.at.controller ≤ℤ now
 
 later_on : (packets : List Packet) (now later : ℤ) → now ≤ℤ later → AreStamped packets now → AreStamped packets later
 later_on packets now later on are = record {
   modes = are.modes;
-  one = are.one;
+  rise = are.rise;
   before = λ (p : Packet) (c : Contains packets p). let h = are.before p c in omega (arith, ints);
 }
 
@@ -70,8 +99,7 @@ reply_more packets at bytes are =
     record {
       modes = λ (p : Packet) (c : Contains (reply ∷ packets) p) (asks : p.to ≡ to.Controller).
           are.modes p (older reply packets p refl c asks) asks;
-      one = λ (p q : Packet) (c : Contains (reply ∷ packets) p) (d : Contains (reply ∷ packets) q) (asks : p.to ≡ to.Controller) (also : q.to ≡ to.Controller) (same : transmit_of p.bytes ≡ transmit_of q.bytes).
-          are.one p q (older reply packets p refl c asks) (older reply packets q refl d also) asks also same;
+      rise = (λ (asks : to.Member ≡ to.Controller). absurd (let no : ⊥ = cc in no), are.rise);
       before = λ (p : Packet) (c : Contains (reply ∷ packets) p). elim (first_or reply packets p c) [
         | inl e ↦ let h = ap (λ (x : Packet). x.at.controller) e in omega (arith, ints)
         | inr k ↦ are.before p k
@@ -91,28 +119,17 @@ request_more : (packets : List Packet) (at : Moment) (greatest count : ℕ) (byt
     → AreStamped (record { to = to.Controller; bytes = bytes; at = at } ∷ packets) at.controller
 request_more packets at greatest count bytes are low mode seconds above =
     let new : Packet = record { to = to.Controller; bytes = bytes; at = at } in
-    let first : (p q : Packet) → new ≡ p → Contains packets q → q.to ≡ to.Controller → transmit_of p.bytes ≡ transmit_of q.bytes → ⊥ =
-    λ (p q : Packet) (e : new ≡ p) (k : Contains packets q) (asks : q.to ≡ to.Controller) (same : transmit_of p.bytes ≡ transmit_of q.bytes).
-    let few = low q k asks in
-    let n = ap (λ (x : Packet). (transmit_of x.bytes).seconds) e in
-    let m = ap (λ (s : Stamp). s.seconds) same in
-    omega arith in
     record {
       modes = λ (p : Packet) (c : Contains (new ∷ packets) p) (asks : p.to ≡ to.Controller). elim (first_or new packets p c) [
         | inl e ↦ ap (λ (x : Packet). mode_of x.bytes) (sym e) ∙ mode
         | inr k ↦ are.modes p k asks
       ];
-      one = λ (p q : Packet) (c : Contains (new ∷ packets) p) (d : Contains (new ∷ packets) q) (asks : p.to ≡ to.Controller) (also : q.to ≡ to.Controller) (same : transmit_of p.bytes ≡ transmit_of q.bytes).
-          elim (first_or new packets p c) [
-            | inl e ↦ elim (first_or new packets q d) [
-              | inl f ↦ sym e ∙ f
-              | inr k ↦ absurd (first p q e k also same)
-            ]
-            | inr k ↦ elim (first_or new packets q d) [
-              | inl f ↦ absurd (first q p f k asks (sym same))
-              | inr l ↦ are.one p q k l asks also same
-            ]
-          ];
+      rise = (
+        λ (asks : to.Controller ≡ to.Controller).
+            each (λ (q : Packet). q.to ≡ to.Controller → (transmit_of q.bytes).seconds < (transmit_of bytes).seconds) packets
+            (λ (q : Packet) (k : Contains packets q) (also : q.to ≡ to.Controller). let few = low q k also in omega arith),
+        are.rise,
+      );
       before = λ (p : Packet) (c : Contains (new ∷ packets) p). elim (first_or new packets p c) [
         | inl e ↦ let h = ap (λ (x : Packet). x.at.controller) e in omega (arith, ints)
         | inr k ↦ are.before p k
@@ -170,7 +187,7 @@ stamps_led w lives has =
 pub none_stamped : (now : ℤ) → AreStamped [] now
 none_stamped now = record {
   modes = λ p c asks. absurd (omega (arith, c.1));
-  one = λ p q c d asks also same. absurd (omega (arith, c.1));
+  rise = tt;
   before = λ p c. absurd (omega (arith, c.1));
 }
 

@@ -1,6 +1,5 @@
 -- How far a correction may be off, and what this rests on.
-use Rattle.std.specs.Prelude.{◌≡◌, ◌⊎◌, ◌+◌, ◌*◌, ◌-◌, ◌≤◌, ℕ, ⊤, List, All, Contains, length, Option, Some, None, ℤ, pos, ◌+ℤ◌, ◌-ℤ◌, ◌≤ℤ◌, nat_abs}
-use Rattle.ntp_wire.specs.declared.stamp.Stamp.{Stamp}
+use Rattle.std.specs.Prelude.{◌≡◌, ◌+◌, ◌*◌, ◌-◌, ◌<◌, ◌≤◌, ℕ, ⊤, List, [], ◌∷◌, All, Contains, Option, Some, None, ℤ, pos, ◌+ℤ◌, ◌-ℤ◌, ◌≤ℤ◌, nat_abs}
 use Rattle.ntp_wire.specs.Fields.{originate_of, receive_of, transmit_of}
 use Rattle.ntp_wire.specs.Stamp.{IsStampOf}
 use Rattle.time_machine.specs.declared.outcome.Request.{Request}
@@ -45,10 +44,16 @@ LawOfNearness = (ops : List Op) (w : State) → WorldAfter ops w → w.now.uneve
 
 -- ---- What it rests on
 
--- no timestamp is sent in two requests, not by two lives either
+-- the count of each request among these packets, the last one first, is above those of all requests before it
+abbrev pub CountsRise : List Packet → Type 0
+CountsRise [] = ⊤
+CountsRise (p ∷ before) =
+    (p.to ≡ to.Controller → All (λ q. q.to ≡ to.Controller → (transmit_of q.bytes).seconds < (transmit_of p.bytes).seconds) before)
+    × CountsRise before
+
+-- so no timestamp is sent twice, not by two lives either
 abbrev pub LawOfStamps : Type 0
-LawOfStamps = (ops : List Op) (w : State) (p q : Packet) → WorldAfter ops w → Contains w.packets p → Contains w.packets q →
-    p.to ≡ to.Controller → q.to ≡ to.Controller → transmit_of p.bytes ≡ transmit_of q.bytes → p ≡ q
+LawOfStamps = (ops : List Op) (w : State) → WorldAfter ops w → CountsRise w.packets
 
 -- The controller made this reply, by its clock when it stood among the packets: it answers a request of the member that
 -- was sent before, and both its times are that clock's.

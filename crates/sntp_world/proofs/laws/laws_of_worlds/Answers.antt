@@ -39,7 +39,7 @@ requests ops w r is o =
     )
 
 stamps : LawOfStamps
-stamps ops w p q is sent also asks asked same = (stamps_always ops w is).stamped.one p q sent also asks asked same
+stamps ops w is = (stamps_always ops w is).stamped.rise
 
 -- a message with a digest is more than a header
 no_header : (kind : Kind) (n : ℕ) → n ≡ kind_length kind → n ≡ 48 → ⊥
