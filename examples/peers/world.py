@@ -214,12 +214,15 @@ ATTACKS = {
     "a reply after a restart": [ASK, MILLI, ANSWER, ("restart",), CORRECT, ("poll", 7), ("deliver", 1)],
     "a step, and a slew after it": [
         ("pass", 4_000_000_000, -2_000_000_000, 2_000_000_000), ASK, MILLI, ANSWER, MILLI, CORRECT,
-        ("poll", 8), even(30_001), ANSWER, even(9_999), CORRECT],
+        even(10_000_000), ("poll", 8), even(30_001), ANSWER, even(9_999), CORRECT],
     "uneven clocks": [ASK, ("pass", 1_000_000, 500, -500), ANSWER, even(1_000_000), CORRECT],
     "clocks as uneven as they can be": [ASK, ("pass", 1_000_000, -1_000_000, 1_000_000), ANSWER, ("pass", 1_000_000, -1_000_000, 1_000_000), CORRECT],
     "the bound is reached": [("pass", 20_000_000, 20_000_000, -20_000_000), ASK, even(1), ANSWER, CORRECT],
-    "timestamps begin anew on the way": [("again", 1_183_109, 4_294_967_295, 0, 0), even(3_290_841_845), ASK, even(50_000_000), ANSWER, even(40_000_000), CORRECT],
-    "clocks a whole turn of timestamps apart": [("again", 10_000_000, 2_147_483_648, -2_147_483_648, 2_147_483_648), ASK, MILLI, ANSWER, MILLI, CORRECT],
+    "timestamps begin anew on the way": [
+        ("again", 1_183_109, 4_294_967_295, 0, 0), even(2_428_579_845), ASK, even(50_000_000), ANSWER, even(10_000_000), CORRECT],
+    "clocks 68 years apart": [("again", 4_996_351, 2_147_483_648, -2_147_483_648, 2_147_483_648), ASK, MILLI, ANSWER, MILLI, CORRECT],
+    "clocks a whole turn of timestamps apart": [
+        ("again", 10_000_000, 2_147_483_648, -2_147_483_648, 2_147_483_648), ASK, MILLI, ANSWER, MILLI, CORRECT],
 }
 
 

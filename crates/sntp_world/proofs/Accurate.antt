@@ -1,5 +1,5 @@
 -- Each correction is within its bound, where the clocks are near each other before each operation.
-use Rattle.std.proofs.Common.{◌≡◌, ℕ, ◌<◌, ◌≤◌, true, List, [], ◌∷◌, length, inl, inr, refl, subst, sym, ◌∙◌, ap, arith, ℤ, pos}
+use Rattle.std.proofs.Common.{◌≡◌, ℕ, List, [], ◌∷◌, length, inl, inr, refl, subst, sym, ◌∙◌, ap, arith, ℤ, pos}
 use Rattle.std.specs.Prelude.{◌+ℤ◌, ◌-ℤ◌, ◌≤ℤ◌, All}
 use Rattle.std.specs.List.{Contains}
 use Rattle.std.proofs.lemmas.Int.{ints}
@@ -32,7 +32,6 @@ use Rattle.sntp_world.proofs.Accepting.{Passed, answered_soon, arrival_passed, b
 use Rattle.sntp_world.proofs.Allowed.{Allowed, IsNotForged, led_allowed, was_sent}
 use Rattle.sntp_world.proofs.Bounds.{given_back, in_reach, within_bound}
 use Rattle.sntp_world.proofs.Cases.{TakesNow, lives_always}
-use Rattle.sntp_world.proofs.Histories.{Lives}
 use Rattle.sntp_world.proofs.Ongoing.{HasOngoing, ongoing_always}
 use Rattle.sntp_world.proofs.Packets.{first_or}
 use Rattle.sntp_world.proofs.Requests.{HasRequests, requests_always}

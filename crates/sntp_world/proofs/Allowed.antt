@@ -1,5 +1,5 @@
 -- What an operation may do to a world, with what strangers may not.
-use Rattle.std.proofs.Common.{◌≡◌, ◌⊎◌, ℕ, ◌<◌, ◌≤◌, ◌==◌, ◌&&◌, Bool, true, false, List, [], ◌∷◌, length, get_or, Option, Some, None, inl, inr, refl, subst, sym, ◌∙◌, ap, arith, ℤ}
+use Rattle.std.proofs.Common.{◌≡◌, ◌⊎◌, ℕ, ◌<◌, ◌≤◌, ◌==◌, Bool, true, false, List, [], ◌∷◌, length, get_or, Some, None, inl, inr, refl, subst, sym, ◌∙◌, ap, arith, ℤ}
 use Rattle.std.specs.Prelude.{slice_get}
 use Rattle.std.specs.List.{Contains}
 use Rattle.std.specs.Str.{bytes_eq}
@@ -17,9 +17,9 @@ use Rattle.sntp_world.specs.declared.op.Effect.{Effect}
 use Rattle.sntp_world.specs.declared.packet.Destination.{Destination}
 use Rattle.sntp_world.specs.declared.packet.Destination.TheVariants as to
 use Rattle.sntp_world.specs.declared.packet.Packet.{Packet}
-use Rattle.sntp_world.specs.Setting.{controller_addr, world_conf}
+use Rattle.sntp_world.specs.Setting.{controller_addr}
 use Rattle.sntp_world.specs.State.{State, first_state}
-use Rattle.sntp_world.specs.Steps.{AsksForMember, Asks, DeliversTo, Forges, Guesses, HasAccountDigest, HasStampSent, Leads, MayPass, Passes, Reaches, Skips, Takes, WasSent, WorldAfter, words_in}
+use Rattle.sntp_world.specs.Steps.{AsksForMember, Asks, DeliversTo, Forges, Guesses, HasAccountDigest, HasStampSent, Leads, MayPass, Passes, Reaches, Skips, WasSent, WorldAfter}
 use Rattle.sntp_world.proofs.Cases.{TakesNow, lives_always}
 use Rattle.sntp_world.proofs.Histories.{Lives, may_restart}
 use Rattle.sntp_world.proofs.Packets.{first_or}

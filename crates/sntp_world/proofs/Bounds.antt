@@ -1,5 +1,5 @@
 -- The bound of a correction, as arithmetic on the readings of two clocks.
-use Rattle.std.proofs.Common.{◌≡◌, ℕ, suc, ◌+◌, ◌*◌, ◌-◌, ◌/◌, ◌<◌, ◌≤◌, ◌^◌, ℤ, pos, negsuc, ◌+ℤ◌, ◌-ℤ◌, ◌≤ℤ◌, arith, refl}
+use Rattle.std.proofs.Common.{◌≡◌, ℕ, ◌+◌, ◌*◌, ◌-◌, ◌≤◌, ℤ, pos, negsuc, ◌+ℤ◌, ◌-ℤ◌, ◌≤ℤ◌, arith, refl}
 use Rattle.std.specs.Prelude.{nat_abs, int_div}
 use Rattle.std.proofs.lemmas.Int.{ints}
 use Rattle.ntp_wire.specs.Stamp.{IsInReach, IsStampOf, ticks_of}

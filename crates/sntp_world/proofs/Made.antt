@@ -1,5 +1,5 @@
 -- Each signed reply was made by the controller, to a request of the member that was sent before.
-use Rattle.std.proofs.Common.{◌≡◌, ◌⊎◌, ℕ, ◌<◌, ◌≤◌, ◌==◌, Bool, true, false, List, [], ◌∷◌, ◌++◌, length, take, Option, Some, None, cond, inl, inr, refl, subst, sym, ◌∙◌, ap, arith, ℤ}
+use Rattle.std.proofs.Common.{◌≡◌, ◌⊎◌, ℕ, ◌==◌, Bool, true, false, List, [], ◌∷◌, ◌++◌, length, take, Some, None, cond, inl, inr, refl, subst, sym, ◌∙◌, ap, arith, ℤ}
 use Rattle.std.specs.Prelude.{option_and_then}
 use Rattle.std.specs.List.{Contains}
 use Rattle.std.proofs.Math.Seq.{take-append_seam}
@@ -15,7 +15,6 @@ use Rattle.dc_sign.proofs.Replies.{length-reply}
 use Rattle.key_book.specs.declared.account.Account.{Account}
 use Rattle.key_book.specs.AccountBook.{key_in, key_of}
 use Rattle.ntp_wire.specs.declared.header.Header.{Header}
-use Rattle.ntp_wire.specs.Fields.{originate_of, receive_of, transmit_of}
 use Rattle.ntp_wire.specs.Header.{HeaderFits, SpellsHeader, header_bytes}
 use Rattle.ntp_wire.specs.Stamp.{IsStampOf}
 use Rattle.ntp_wire.proofs.Fields.{originate_is, receive_is, transmit_is}

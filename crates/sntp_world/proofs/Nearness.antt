@@ -1,7 +1,7 @@
 -- Clocks that run little unevenly stay near each other, as those of each script do.
-use Rattle.std.proofs.Common.{◌≡◌, ℕ, suc, zero, ◌+◌, ◌*◌, ◌%◌, ◌<◌, ◌≤◌, ◌^◌, ◌==◌, Bool, true, false, List, [], ◌∷◌, length, Option, Some, None, reverse, inl, inr, refl, subst, sym, ◌∙◌, ap, arith, ℤ, pos, if◌then◌else◌}
-use Rattle.std.specs.Prelude.{◌+ℤ◌, ◌-ℤ◌, ◌≤ℤ◌, All, nat_abs, nat_lt}
-use Rattle.std.specs.List.{AllByRecursion, Contains}
+use Rattle.std.proofs.Common.{◌≡◌, ℕ, suc, zero, ◌+◌, ◌*◌, ◌%◌, ◌<◌, ◌≤◌, ◌^◌, ◌==◌, Bool, true, false, List, [], ◌∷◌, length, Option, Some, None, reverse, inl, inr, refl, subst, sym, ap, arith, ℤ, pos, if◌then◌else◌}
+use Rattle.std.specs.Prelude.{◌≤ℤ◌, All, nat_abs, nat_lt}
+use Rattle.std.specs.List.{AllByRecursion}
 use Rattle.std.proofs.lemmas.Int.{ints}
 use Rattle.std.proofs.lemmas.List.{length-reverse}
 use Rattle.std.proofs.lemmas.List.Elements.{All-contains}
@@ -19,11 +19,10 @@ use Rattle.sntp_world.specs.declared.packet.Destination.{Destination}
 use Rattle.sntp_world.specs.declared.packet.Destination.TheVariants as to
 use Rattle.sntp_world.specs.Accuracy.{IsNotNegative, IsWithinBound}
 use Rattle.sntp_world.specs.Draws.{draw, draws_at, op_at, ops_from, script_of, small}
-use Rattle.sntp_world.specs.Laws.{AreClocks}
 use Rattle.sntp_world.specs.Setting.{world_conf}
 use Rattle.sntp_world.specs.State.{Correction, IsLeastSlack, State, first_state, slack_of}
-use Rattle.sntp_world.specs.Steps.{AreNear, Asks, DeliversTo, Guesses, Leads, Leaves, MayPass, Passes, Skips, StayNear, Takes, WorldAfter, correction_by, nearest_reading, passed}
-use Rattle.sntp_world.proofs.Accurate.{HasAccurate, accurate_led, accurate_near, first_accurate, good_moved}
+use Rattle.sntp_world.specs.Steps.{AreNear, Asks, DeliversTo, Guesses, Leads, Leaves, MayPass, Passes, Skips, StayNear, Takes, WorldAfter, correction_by}
+use Rattle.sntp_world.proofs.Accurate.{HasAccurate, accurate_led, first_accurate, good_moved}
 use Rattle.sntp_world.proofs.Allowed.{Allowed, IsNotForged, led_allowed}
 use Rattle.sntp_world.proofs.Bounds.{IsClose, close_moved, close_passed, size_at_most}
 use Rattle.sntp_world.proofs.Cases.{TakesNow, lives_always}

@@ -10,8 +10,6 @@ use Rattle.ntp_wire.specs.Fields.{originate_of, transmit_of}
 use Rattle.time_machine.specs.declared.outcome.Outcome.{Outcome}
 use Rattle.time_machine.specs.declared.outcome.Outcome.TheVariants.{Started, Idle, Sent, Moved, Refused}
 use Rattle.time_machine.specs.declared.outcome.Request.{Request}
-use Rattle.time_machine.specs.Machine.{told}
-use Rattle.time_machine.specs.Words.{words}
 use Rattle.time_machine.proofs.Answered.{all_have}
 use Rattle.time_machine.proofs.Counting.{sound_told}
 use Rattle.time_machine.proofs.Lists.{all_weaken}

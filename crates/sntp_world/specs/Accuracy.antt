@@ -1,5 +1,5 @@
 -- How far a correction may be off, and what this rests on.
-use Rattle.std.specs.Prelude.{◌≡◌, ◌+◌, ◌*◌, ◌-◌, ◌<◌, ◌≤◌, ℕ, ⊤, List, [], ◌∷◌, All, Contains, Option, Some, None, ℤ, pos, ◌+ℤ◌, ◌-ℤ◌, ◌≤ℤ◌, nat_abs}
+use Rattle.std.specs.Prelude.{◌≡◌, ◌+◌, ◌*◌, ◌-◌, ◌<◌, ◌≤◌, ⊤, List, [], ◌∷◌, All, Contains, Option, Some, None, ℤ, pos, ◌+ℤ◌, ◌-ℤ◌, ◌≤ℤ◌, nat_abs}
 use Rattle.ntp_wire.specs.Fields.{originate_of, receive_of, transmit_of}
 use Rattle.ntp_wire.specs.Stamp.{IsStampOf}
 use Rattle.time_machine.specs.declared.outcome.Request.{Request}

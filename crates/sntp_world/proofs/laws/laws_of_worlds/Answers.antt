@@ -9,13 +9,11 @@ use Rattle.sntp_world.specs.Accuracy.{LawOfAccuracy, LawOfNearness, LawOfReplies
 use Rattle.sntp_world.specs.Laws.{IsPacketOf, LawOfClocks, LawOfHistories, LawOfPackets, LawOfRequests}
 use Rattle.sntp_world.specs.Setting.{world_conf}
 use Rattle.sntp_world.proofs.Cases.{lives_always}
-use Rattle.sntp_world.proofs.Bounds.{close_moved, given_back, in_reach, runs_more, runs_same, within_bound}
-use Rattle.sntp_world.proofs.Allowed.{always_allowed, was_requested, was_sent}
 use Rattle.sntp_world.proofs.Stamps.{stamps_always}
 use Rattle.sntp_world.proofs.Made.{made_always}
 use Rattle.sntp_world.proofs.Ongoing.{ongoing_always}
 use Rattle.sntp_world.proofs.Accurate.{accurate_near}
-use Rattle.sntp_world.proofs.Nearness.{near_little, not_negative, script_near}
+use Rattle.sntp_world.proofs.Nearness.{near_little}
 use Rattle.sntp_world.proofs.Packets.{packets_always}
 use Rattle.sntp_world.proofs.Requests.{requests_always}
 use Rattle.sntp_world.proofs.laws.laws_of_worlds.Goals as goal
