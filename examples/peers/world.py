@@ -220,9 +220,9 @@ ATTACKS = {
     "the bound is reached": [("pass", 20_000_000, 20_000_000, -20_000_000), ASK, even(1), ANSWER, CORRECT],
     "timestamps begin anew on the way": [
         ("again", 1_183_109, 4_294_967_295, 0, 0), even(2_428_579_845), ASK, even(50_000_000), ANSWER, even(10_000_000), CORRECT],
-    "clocks 68 years apart": [("again", 4_996_351, 2_147_483_648, -2_147_483_648, 2_147_483_648), ASK, MILLI, ANSWER, MILLI, CORRECT],
+    "clocks 68 years apart": [("again", 4_996_351, 2_147_483_648, -2_147_483_647, 2_147_483_647), ASK, MILLI, ANSWER, MILLI, CORRECT],
     "clocks a whole turn of timestamps apart": [
-        ("again", 10_000_000, 2_147_483_648, -2_147_483_648, 2_147_483_648), ASK, MILLI, ANSWER, MILLI, CORRECT],
+        ("again", 10_000_000, 2_147_483_648, -2_147_483_647, 2_147_483_647), ASK, MILLI, ANSWER, MILLI, CORRECT],
 }
 
 
