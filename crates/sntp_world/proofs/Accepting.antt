@@ -11,6 +11,7 @@ use Rattle.edge_traits.specs.declared.datagram.Addr.{Addr}
 use Rattle.ntp_wire.specs.declared.stamp.Stamp.{Stamp}
 use Rattle.ntp_wire.specs.Fields.{leap_of, mode_of, originate_of, receive_of, stratum_of, transmit_of}
 use Rattle.ntp_wire.specs.Stamp.{ticks_of}
+use Rattle.ms_auth.specs.declared.packet.Kind.TheVariants.{Short}
 use Rattle.phase_rule.specs.declared.rule.Judged.{Judged}
 use Rattle.phase_rule.specs.declared.rule.Judged.TheVariants as judgement
 use Rattle.phase_rule.specs.Rule.{judged}
@@ -21,11 +22,11 @@ use Rattle.time_machine.specs.declared.outcome.Reason.{Reason}
 use Rattle.time_machine.specs.declared.outcome.Request.{Request}
 use Rattle.time_machine.specs.Events.{reading_of}
 use Rattle.time_machine.specs.Machine.{is_due, outcome_at, outcome_by}
-use Rattle.time_machine.specs.Verdict.{delay_of, has_bad_times, is_answered, is_bad_digest, is_bad_key_id, is_bad_length, is_bad_mode, is_bad_source, is_bad_stratum, moved_by, offset_of, verdict_on}
+use Rattle.time_machine.specs.Verdict.{delay_of, has_bad_times, has_digest, is_answered, is_bad_digest, is_bad_key_id, is_bad_length, is_bad_mode, is_bad_source, is_bad_stratum, moved_by, offset_of, verdict_on}
 use Rattle.time_machine.specs.Words.{Words}
 use Rattle.sntp_world.specs.declared.packet.Packet.{Packet}
 use Rattle.sntp_world.specs.Due.{HasRequest, IsAccepted, IsRequestWith}
-use Rattle.sntp_world.specs.Setting.{world_conf, world_limits}
+use Rattle.sntp_world.specs.Setting.{world_conf, world_key, world_limits}
 use Rattle.sntp_world.specs.State.{State}
 use Rattle.sntp_world.specs.Steps.{words_in}
 use Rattle.sntp_world.proofs.Requests.{HasRequests, stamp_by}
@@ -40,6 +41,9 @@ pub record Passed (w : Words) (at : ℤ) (bytes : List ℕ) (offset : ℤ) : Typ
   pub answers : is_answered at (originate_of bytes) request ≡ true
   pub times : has_bad_times request.at (ticks_of (receive_of bytes) at) (ticks_of (transmit_of bytes) at) at ≡ false
   pub small : unsigned_abs offset < 10 ^ 17
+  pub mode : mode_of bytes ≡ 4
+  pub digest : has_digest Short world_key bytes ≡ true
+  pub moved : offset_of request.at (ticks_of (receive_of bytes) at) (ticks_of (transmit_of bytes) at) at ≡ offset
 
 passed : (b : Bool) (reason : Reason) (y : Outcome) (count : ℕ) (offset : ℤ) (how : How) → (if b then Refused reason else y) ≡ Moved count offset how
     → (b ≡ false) × (y ≡ Moved count offset how)
@@ -79,6 +83,13 @@ record PassedOn (at : ℤ) (bytes : List ℕ) (o : Option Request) (offset : ℤ
   is : o ≡ Some request
   times : has_bad_times request.at (ticks_of (receive_of bytes) at) (ticks_of (transmit_of bytes) at) at ≡ false
   small : unsigned_abs offset < 10 ^ 17
+  digest : has_digest Short world_key bytes ≡ true
+  moved : offset_of request.at (ticks_of (receive_of bytes) at) (ticks_of (transmit_of bytes) at) at ≡ offset
+
+-- one key was tried, and the digest is its
+is_signed : (h : Bool) → (not h && not false) ≡ false → h ≡ true
+is_signed true e = refl
+is_signed false e = absurd (let no : ⊥ = cc in no)
 
 passed_on : (at : ℤ) (bytes : List ℕ) (o : Option Request) (count : ℕ) (offset : ℤ) (how : How) → verdict_on world_conf at bytes o ≡ Moved count offset how → PassedOn at bytes o offset
 passed_on at bytes None count offset how e = absurd (let no : ⊥ = cc in no)
@@ -88,10 +99,17 @@ passed_on at bytes (Some r) count offset how e =
     let times = passed (has_bad_times r.at (ticks_of (receive_of bytes) at) (ticks_of (transmit_of bytes) at) at) _ _ count offset how digest.1 in
     let off = offset_of r.at (ticks_of (receive_of bytes) at) (ticks_of (transmit_of bytes) at) at in
     let small = moved_small r.count off (judged world_limits off) count offset how times.1 in
-    record { request = r; is = refl; times = times.0; small = subst (λ (z : ℤ). unsigned_abs z < 10 ^ 17) small.1 (small_offset off small.0) }
+    record {
+      request = r;
+      is = refl;
+      times = times.0;
+      small = subst (λ (z : ℤ). unsigned_abs z < 10 ^ 17) small.1 (small_offset off small.0);
+      digest = is_signed (has_digest Short world_key bytes) digest.0;
+      moved = small.1;
+    }
 
-length_is : (n : ℕ) → not (n == 68) ≡ false → n ≡ 68
-length_is n e = (Decides-eqb n 68).0 (not_false (n == 68) e)
+number_is : (n k : ℕ) → not (n == k) ≡ false → n ≡ k
+number_is n k e = (Decides-eqb n k).0 (not_false (n == k) e)
   where
     not_false : (b : Bool) → not b ≡ false → b ≡ true
     not_false true is = refl
@@ -106,7 +124,17 @@ arrival_passed w at from bytes count offset how e =
     let stratum = passed (is_bad_stratum (leap_of bytes) (stratum_of bytes)) _ _ count offset how mode.1 in
     let on = passed_on at bytes (find (is_answered at (originate_of bytes)) w.open_requests) count offset how stratum.1 in
     let is = found (is_answered at (originate_of bytes)) w.open_requests on.request on.is in
-    record { whole = length_is (length bytes) whole.0; request = on.request; opened = is.element; answers = is.passes; times = on.times; small = on.small }
+    record {
+      whole = number_is (length bytes) 68 whole.0;
+      request = on.request;
+      opened = is.element;
+      answers = is.passes;
+      times = on.times;
+      small = on.small;
+      mode = number_is (mode_of bytes) 4 mode.0;
+      digest = on.digest;
+      moved = on.moved;
+    }
 
 -- ---- Its request
 
@@ -133,6 +161,12 @@ or_left false b e = refl
 
 le_by : (a b : ℤ) → int_le a b ≡ true → a ≤ℤ b
 le_by a b e = grind arith
+
+-- it came in time
+pub answered_soon : (at : ℤ) (stamp : Stamp) (r : Request) → is_answered at stamp r ≡ true → at ≤ℤ (r.at +ℤ pos 100000000)
+answered_soon at stamp r e =
+    le_by at (r.at +ℤ pos 100000000)
+    (both_true (r.count == stamp.seconds && r.word == stamp.fraction && int_le r.at at) (int_le at (r.at +ℤ pos 100000000)) e).1
 
 not_lt_by : (a b : ℤ) → int_lt a b ≡ false → b ≤ℤ a
 not_lt_by a b e = grind arith

@@ -23,3 +23,11 @@ pub mod Taking
 pub mod Slacks
 pub mod Deciding
 pub mod Simulating
+pub mod Bounds
+pub mod Allowed
+pub mod Stamps
+pub mod Made
+pub mod Ongoing
+pub mod Accurate
+pub mod Nearness
+pub mod Bounded

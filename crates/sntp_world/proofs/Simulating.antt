@@ -1,6 +1,6 @@
 -- A whole run, and one that stops.
-use Rattle.std.proofs.Common.{◌≡◌, ℕ, suc, ◌+◌, ◌≤◌, List, [], ◌∷◌, ◌++◌, length, take, drop, get_or, Option, Some, None, refl, sym, ap, ◌∙◌, subst, arith, append-nil, length-append, inl, inr, ℤ}
-use Rattle.std.specs.Prelude.{reverse, slice_get}
+use Rattle.std.proofs.Common.{◌≡◌, ℕ, suc, ◌+◌, ◌<◌, ◌≤◌, ◌^◌, List, [], ◌∷◌, ◌++◌, length, take, drop, get_or, Option, Some, None, refl, sym, ap, ◌∙◌, subst, arith, append-nil, length-append, inl, inr, ℤ}
+use Rattle.std.specs.Prelude.{All, reverse, slice_get}
 use Rattle.std.specs.List.{AllByRecursion}
 use Rattle.std.proofs.Math.Seq.{take-append_seam, take-length, take-suc}
 use Rattle.std.proofs.lemmas.List.{length-reverse, length-take, reverse-append}
@@ -17,6 +17,7 @@ use Rattle.sntp_world.specs.declared.op.Op.{Op}
 use Rattle.sntp_world.specs.declared.run.SimEnd.{SimEnd}
 use Rattle.sntp_world.specs.declared.run.SimEnd.TheVariants.{Done, WriteFault, NoMemory}
 use Rattle.sntp_world.specs.declared.totals.Totals.{Totals}
+use Rattle.sntp_world.specs.Accuracy.{IsWithinBound}
 use Rattle.sntp_world.specs.Draws.{script_of}
 use Rattle.sntp_world.specs.Due.{least_of}
 use Rattle.sntp_world.specs.Running.{AreTotals, BreaksBy, CarriesOn, CarriesOut, IsFrontOfAll, OpFits, StopsBy, counted, end_of, record_due, records_of}
@@ -24,9 +25,12 @@ use Rattle.sntp_world.specs.Setting.{first_reading}
 use Rattle.sntp_world.specs.Simulation.{BreaksOff, EndsBy, Simulates, Sinks, WritesWhole}
 use Rattle.sntp_world.specs.Standing.{IsReached, Keeps, Kept, StandsForOps}
 use Rattle.sntp_world.specs.State.{Correction, IsLeastSlack, State, first_state, slack_of}
+use Rattle.sntp_world.specs.Steps.{WorldAfter}
 use Rattle.sntp_world.specs.Summary.{IsSummary, member_line, moved_in, ops_line, refused_in, sent_in, slack_line}
+use Rattle.sntp_world.proofs.Accurate.{accurate_near}
 use Rattle.sntp_world.proofs.Doing.{least_more}
 use Rattle.sntp_world.proofs.Fitting.{all_reversed}
+use Rattle.sntp_world.proofs.Nearness.{not_negative, script_near}
 use Rattle.sntp_world.proofs.Recording.{records_done, totals_done}
 use Rattle.sntp_world.proofs.Runs.{fit_around, front_of_part, front_so_far, front_with_due, slice_get_below}
 use Rattle.sntp_world.proofs.Scripts.{script_fits, script_length}
@@ -125,11 +129,16 @@ record Whole (seed n : ℕ) (front : List ℕ) : Type 0 where
   rest : List ℕ
   cut : captured ≡ front ++ rest
 
-whole_of : (seed n : ℕ) (front : List ℕ) → IsFrontOfAll (script_of seed n) front → Whole seed n front
-whole_of seed n front all =
+-- each correction of a script is within its bound
+script_bounds : (seed n : ℕ) (w : State) → n < 2 ^ 32 → WorldAfter (reverse (script_of seed n)) w → All IsWithinBound w.corrections
+script_bounds seed n w short after = (accurate_near (reverse (script_of seed n)) w (script_near seed n short) after).bounds
+
+whole_of : (seed n : ℕ) (front : List ℕ) → n < 2 ^ 32 → IsFrontOfAll (script_of seed n) front → Whole seed n front
+whole_of seed n front short all =
     let w = all.state in
     let least = least_of_all w.corrections in
     let fits = all_reversed OpFits (script_of seed n) (script_fits seed n) in
+    let bounds = script_bounds seed n w short all.after in
     record {
       captured = records_of w.history;
       printed = ops_line n w.skipped ++ member_line (sent_in w) (moved_in w) (refused_in w) ++ slack_line least.0;
@@ -138,6 +147,8 @@ whole_of seed n front all =
         after = all.after;
         capture = record { fits = events_fit (reverse (script_of seed n)) w fits all.after; written = refl };
         summary = record { slack = least.0; least = least.1; written = refl };
+        accurate = bounds;
+        never_negative = not_negative w.corrections least.0 least.1 bounds;
       };
       rest = all.rest;
       cut = all.cut;
@@ -151,9 +162,9 @@ front_of_first script n fits =
     front_of_part script [] life n (subst (IsFrontOfAll script) (append-nil life) all)
 
 -- where nothing was written, there may have been no memory
-pub nothing_written : (seed n : ℕ) (s : Sinks) → Simulates seed n NoMemory s s
-nothing_written seed n s =
-    let w = whole_of seed n [] (front_of_first (script_of seed n) 0 (script_fits seed n)) in
+pub nothing_written : (seed n : ℕ) (s : Sinks) → n < 2 ^ 32 → Simulates seed n NoMemory s s
+nothing_written seed n s short =
+    let w = whole_of seed n [] short (front_of_first (script_of seed n) 0 (script_fits seed n)) in
     record {
       captured = w.captured;
       printed = w.printed;
@@ -188,18 +199,18 @@ broke_off front captured printed rest before now cut added same = record {
 }
 
 pub stopped : (seed n : ℕ) (end : SimEnd) (before now : Sinks) → StopsBy (script_of seed n) before.capture now.capture before.capture_faults now.capture_faults end
-    → now.out ≡ before.out → now.out_faults ≡ before.out_faults → Simulates seed n end before now
-stopped seed n Done before now stops same counts = absurd stops
-stopped seed n WriteFault before now stops same counts =
-    let w = whole_of seed n stops.0 stops.1 in
+    → now.out ≡ before.out → now.out_faults ≡ before.out_faults → n < 2 ^ 32 → Simulates seed n end before now
+stopped seed n Done before now stops same counts short = absurd stops
+stopped seed n WriteFault before now stops same counts short =
+    let w = whole_of seed n stops.0 short stops.1 in
     record {
       captured = w.captured;
       printed = w.printed;
       whole = w.writes;
       ends = (broke_off stops.0 w.captured w.printed w.rest before now w.cut stops.2 same, inl (stops.3, counts));
     }
-stopped seed n NoMemory before now stops same counts =
-    let w = whole_of seed n stops.0 stops.1 in
+stopped seed n NoMemory before now stops same counts short =
+    let w = whole_of seed n stops.0 short stops.1 in
     record {
       captured = w.captured;
       printed = w.printed;
@@ -238,13 +249,15 @@ ended captured printed write.Failed before now capture faults out counts = (
 
 pub carried_out : (seed n : ℕ) (put : Put) (t : Totals) (k : Kept) (slack : Option ℤ) (before now : Sinks) → CarriesOut (reverse (script_of seed n)) t k before.capture now.capture
     → now.capture_faults ≡ before.capture_faults → ((w : State) → Keeps k w → IsLeastSlack w.corrections slack)
-    → Writes put (lines_of t slack) before.out now.out → PutCounts put before.out_faults now.out_faults → Simulates seed n (end_of put) before now
-carried_out seed n put t k slack before now is faults least out counts =
+    → Writes put (lines_of t slack) before.out now.out → PutCounts put before.out_faults now.out_faults → n < 2 ^ 32 → Simulates seed n (end_of put) before now
+carried_out seed n put t k slack before now is faults least out counts short =
     let w = is.state in
     let script = reverse (script_of seed n) in
     let fits = all_reversed OpFits (script_of seed n) (script_fits seed n) in
     let many : length script ≡ n = length-reverse (script_of seed n) ∙ script_length seed n in
     let totals : AreTotals n w t = subst (λ (m : ℕ). AreTotals m w t) many is.totals in
+    let bounds = script_bounds seed n w short is.after in
+    let summary = summed n w t slack totals (least w is.keeps) in
     record {
       captured = records_of w.history;
       printed = lines_of t slack;
@@ -252,7 +265,9 @@ carried_out seed n put t k slack before now is faults least out counts =
         state = w;
         after = is.after;
         capture = record { fits = events_fit script w fits is.after; written = refl };
-        summary = summed n w t slack totals (least w is.keeps);
+        summary = summary;
+        accurate = bounds;
+        never_negative = not_negative w.corrections summary.slack summary.least bounds;
       };
       ends = ended (records_of w.history) (lines_of t slack) put before now is.written faults out counts;
     }

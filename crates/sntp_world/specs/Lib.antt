@@ -3,6 +3,7 @@ pub mod State
 pub mod Steps
 pub mod Standing
 pub mod Laws
+pub mod Accuracy
 pub mod Draws
 pub mod Summary
 pub mod Simulation

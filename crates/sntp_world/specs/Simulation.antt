@@ -1,21 +1,25 @@
 -- A run of a script in a new world: what it writes, and how it ends.
-use Rattle.std.specs.Prelude.{◌≡◌, ◌≤◌, ◌⊎◌, ℕ, List, length, take, reverse, Option}
+use Rattle.std.specs.Prelude.{◌≡◌, ◌≤◌, ◌⊎◌, ℕ, List, All, length, take, reverse, Option}
 use Rattle.base_specs.specs.Counts.{Fails}
 use Rattle.base_specs.specs.Told.{Added}
 use Rattle.capture_fmt.specs.Capture.{SpellsEvents}
 use Rattle.sntp_world.specs.declared.run.SimEnd.{SimEnd}
 use Rattle.sntp_world.specs.declared.run.SimEnd.TheVariants.{Done, WriteFault, NoMemory}
+use Rattle.sntp_world.specs.Accuracy.{IsNotNegative, IsWithinBound}
 use Rattle.sntp_world.specs.Draws.{script_of}
 use Rattle.sntp_world.specs.State.{State}
 use Rattle.sntp_world.specs.Steps.{WorldAfter}
 use Rattle.sntp_world.specs.Summary.{IsSummary}
 
--- what a whole run writes: the records of the member's events, and the summary
+-- What a whole run writes: the records of the member's events, and the summary. Each correction is within its bound, and
+-- the slack that is printed isn't negative, whatever the seed and however many operations there are.
 pub record WritesWhole (seed n : ℕ) (captured printed : List ℕ) : Type 0 where
   pub state : State
   pub after : WorldAfter (reverse (script_of seed n)) state
   pub capture : SpellsEvents (reverse state.history) captured
   pub summary : IsSummary n state printed
+  pub accurate : All IsWithinBound state.corrections
+  pub never_negative : IsNotNegative summary.slack
 
 -- what output and capture tell, and how often a write of each has failed
 pub record Sinks : Type 0 where

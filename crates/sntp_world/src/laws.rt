@@ -1,4 +1,5 @@
 //! Laws of the world.
+ghost use Rattle.sntp_world.specs.Accuracy.{LawOfAccuracy, LawOfNearness, LawOfReplies, LawOfRunning, LawOfStamps};
 ghost use Rattle.sntp_world.specs.Laws.{LawOfClocks, LawOfHistories, LawOfPackets, LawOfRequests};
 
 /// What holds of each world, whatever operations led to it.
@@ -7,4 +8,9 @@ pub fn laws_of_worlds()
     ensures clocks { LawOfClocks }
     ensures packets { LawOfPackets }
     ensures requests { LawOfRequests }
+    ensures stamps { LawOfStamps }
+    ensures replies { LawOfReplies }
+    ensures running { LawOfRunning }
+    ensures accuracy { LawOfAccuracy }
+    ensures nearness { LawOfNearness }
 {}

@@ -13,12 +13,17 @@
 //! `moment.rt` (the two clocks), `packet.rt`, `world.rt` (what a world keeps), `due.rt` (what an operation comes to),
 //! `stepping.rt` (how it is carried out), `correction.rt` (the bound of a correction), `draws.rt` (the list from a seed),
 //! `totals.rt` (the summary), `run.rt`, and `laws.rt`. [`laws_of_worlds`] says: the history grows, both clocks are readings,
-//! each packet was sent at readings, and an open request has its packet.
+//! each packet was sent at readings, and an open request has its packet; no timestamp is sent twice, each signed reply was made
+//! by the controller, no clock is corrected while a request is open, and each correction is within its bound.
+//!
+//! The bound: a correction errs by at most half the delay of its reply, what the clocks ran unevenly between sending and
+//! arrival, and half a tick. It holds where the clocks are within 68 years of each other, whatever strangers and the net do,
+//! and of each script without a premise. That nothing is forged and no timestamp guessed is part of the operations.
 //!
 //! The definitions, in the order to read them: `specs/Setting.antt`, `State.antt` (what the world is made of), `Steps.antt`
 //! (what each operation does), `Standing.antt` (what a world keeps of it), `Draws.antt` (the script), `Summary.antt` and
-//! `Simulation.antt` (what a run writes). `Laws.antt` says what holds of each world. `Due.antt` and `Running.antt` belong to
-//! the private part.
+//! `Simulation.antt` (what a run writes). `Laws.antt` says what holds of each world, and `Accuracy.antt` what the bound is and
+//! what it rests on. `Due.antt` and `Running.antt` belong to the private part.
 #![tactic(auto)]
 
 mod correction;

@@ -2,8 +2,9 @@
 ghost use Rattle.std.specs.Prelude.{◌≡◌, ◌∷◌, List, IfOk, OnOk, OnErr};
 ghost use Rattle.sntp_world.specs.declared.due.Due.TheVariants as due;
 ghost use Rattle.sntp_world.specs.declared.op.Op.{Op};
+ghost use Rattle.sntp_world.specs.Accuracy.{KeepsBounds};
 ghost use Rattle.sntp_world.specs.State.{State};
-ghost use Rattle.sntp_world.specs.Steps.{Leads};
+ghost use Rattle.sntp_world.specs.Steps.{Leads, StayNear};
 ghost use Rattle.sntp_world.specs.Standing.{Keeps, StandsForOps};
 ghost use Rattle.sntp_world.specs.Due.{Does, IsDueBy, reply_of};
 
@@ -28,6 +29,10 @@ impl World {
         // It is the world after one more operation.
         ensures stands { (ops : List Op) → StandsForOps self.old ops
             → OnOk result (StandsForOps self.new (op.now ∷ ops)) }
+
+        // Where the clocks stayed within 68 years of each other until now, each correction is within its bound.
+        ensures accurate { (ops : List Op) → StandsForOps self.old ops → StayNear ops
+            → OnOk result (KeepsBounds (op.now ∷ ops) self.new) }
         ensures unchanged { OnErr result (self.new ≡ self.old) }
     {
         let due = self.due(op);

@@ -1,9 +1,12 @@
 //! What a world keeps.
-ghost use Rattle.std.specs.Prelude.{◌≡◌, [], IfOk, option_map, reverse, slice_get};
+ghost use Rattle.std.specs.Prelude.{◌≡◌, [], List, IfOk, option_map, reverse, slice_get};
 ghost use Rattle.capture_fmt.specs.declared.event.Event.TheVariants.{Life};
+ghost use Rattle.sntp_world.specs.declared.op.Op.{Op};
+ghost use Rattle.sntp_world.specs.Accuracy.{IsNotNegative};
 ghost use Rattle.sntp_world.specs.Setting.{first_reading};
 ghost use Rattle.sntp_world.specs.State.{IsLeastSlack, State};
 ghost use Rattle.sntp_world.specs.Standing.{Keeps, StandsForOps};
+ghost use Rattle.sntp_world.specs.Steps.{StayNear};
 
 use crate::NoMemory;
 use crate::moment::Moment;
@@ -93,6 +96,9 @@ impl World {
     pub fn slack(&self) -> Option<i64>
         ensures kept { result ≡ self.now.slack }
         ensures least { (w : State) → Keeps self.now w → IsLeastSlack w.corrections result }
+
+        // It isn't negative, where the clocks stayed within 68 years of each other.
+        ensures never_negative { (ops : List Op) → StandsForOps self.now ops → StayNear ops → IsNotNegative result }
     {
         self.slack
     }

@@ -1,10 +1,19 @@
-use Rattle.std.proofs.Common.{◌<◌, ◌^◌}
+use Rattle.std.proofs.Common.{◌≡◌, ◌<◌, ◌^◌, ℕ, length, arith}
+use Rattle.ms_auth.specs.declared.packet.Kind.{Kind}
+use Rattle.ms_auth.specs.declared.packet.Kind.TheVariants.{Short, Extended}
+use Rattle.ms_auth.specs.Fields.{kind_length}
 use Rattle.time_machine.specs.Machine.{told}
 use Rattle.time_machine.proofs.Open.{open_at}
 use Rattle.sntp_world.specs.declared.packet.Packet.{Packet}
+use Rattle.sntp_world.specs.Accuracy.{LawOfAccuracy, LawOfNearness, LawOfReplies, LawOfRunning, LawOfStamps}
 use Rattle.sntp_world.specs.Laws.{IsPacketOf, LawOfClocks, LawOfHistories, LawOfPackets, LawOfRequests}
 use Rattle.sntp_world.specs.Setting.{world_conf}
 use Rattle.sntp_world.proofs.Cases.{lives_always}
+use Rattle.sntp_world.proofs.Stamps.{stamps_always}
+use Rattle.sntp_world.proofs.Made.{made_always}
+use Rattle.sntp_world.proofs.Ongoing.{ongoing_always}
+use Rattle.sntp_world.proofs.Accurate.{accurate_near}
+use Rattle.sntp_world.proofs.Nearness.{near_little}
 use Rattle.sntp_world.proofs.Packets.{packets_always}
 use Rattle.sntp_world.proofs.Requests.{requests_always}
 use Rattle.sntp_world.proofs.laws.laws_of_worlds.Goals as goal
@@ -27,5 +36,27 @@ requests ops w r is o =
       λ (p : Packet) (of : IsPacketOf w r p). there.only p of.sent of.asks of.stamp,
     )
 
+stamps : LawOfStamps
+stamps ops w is = (stamps_always ops w is).stamped.rise
+
+-- a message with a digest is more than a header
+no_header : (kind : Kind) (n : ℕ) → n ≡ kind_length kind → n ≡ 48 → ⊥
+no_header Short n is same = omega (arith, is, same)
+no_header Extended n is same = omega (arith, is, same)
+
+replies : LawOfReplies
+replies ops w reply is sent goes signed =
+    (made_always ops w is).made reply sent goes (λ (short : length reply.bytes ≡ 48). no_header signed.kind (length reply.bytes) signed.size short)
+
+running : LawOfRunning
+running ops w r p is o of =
+    ((ongoing_always ops w is).ongoing r p ((open_at world_conf (told world_conf w.history) r).0 o) of.sent of.asks of.stamp).runs
+
+accuracy : LawOfAccuracy
+accuracy ops w is near = (accurate_near ops w near is).bounds
+
+nearness : LawOfNearness
+nearness ops w is few = near_little ops w is few
+
 pub returns : goal.returns
-returns c = record { histories = histories; clocks = clocks; packets = packets; requests = requests }
+returns c = record { histories = histories; clocks = clocks; packets = packets; requests = requests; stamps = stamps; replies = replies; running = running; accuracy = accuracy; nearness = nearness }
