@@ -22,15 +22,16 @@ nanoseconds() {
 }
 
 declare -A cost
-for work in ticks short extended stray forged md5 hmac; do
+for work in ticks short extended stray forged md5 hmac derived; do
     "$program" "$work" 1 >/dev/null || die "a run failed"
     cost[$work]=$(nanoseconds "$work")
 done
 awk -v t="${cost[ticks]}" -v s="${cost[short]}" -v e="${cost[extended]}" -v l="${cost[stray]}" -v f="${cost[forged]}" \
-    -v m="${cost[md5]}" -v h="${cost[hmac]}" 'BEGIN {
+    -v m="${cost[md5]}" -v h="${cost[hmac]}" -v d="${cost[derived]}" 'BEGIN {
     printf "a request that is sent: %.0f ns, %.0f events a second\n", t, 1e9 / t
     printf "a short reply that is accepted: %.0f ns, %.2f times its digest (%.0f ns)\n", s - t, (s - t) / m, m
     printf "an extended reply that is accepted: %.0f ns, %.2f times its digest (%.0f ns)\n", e - t, (e - t) / h, h
+    printf "that digest with its key derived anew: %.0f ns, so an accepted reply takes %.2f of it\n", d, (e - t) / d
     printf "a short reply under another key: %.0f ns, %.2f times its digest\n", f - t, (f - t) / m
     printf "a reply to no request: %.0f ns, %.2f times a digest\n", l - t, (l - t) / m
 }'

@@ -2,7 +2,8 @@
 # What `/dc` makes of a load of requests on loopback, beside a loop that sends each datagram back and, where it is
 # installed, chronyd: requests a second, and time of the processor for each, which a busy machine changes least. 32
 # requests are on the way at any time. Of each kind several runs are made in turn, and the best counts.
-# Then the system calls of a request, and the memory after many and after few.
+# Then the same of signed requests, each for another account, with 10 accounts and with 100,000; the system calls of a
+# request; and the memory after many and after few.
 # Usage: bench/dc.sh [REQUESTS [RUNS]]; 100,000 and 5 where they aren't given.
 # Needs gcc and the proved program: `rt run` in crates/w32tm. Calls are counted where strace is. It ends by itself.
 . "$(dirname "$0")/../examples/prologue.sh"
@@ -42,7 +43,7 @@ serve() {
     free_port
     case $1 in
     echo) "${server_on[@]}" "$folder/udp_echo" "$port" "$2" & ;;
-    dc) "${server_on[@]}" "$program" "/dc:$2" "/config:$folder/dc.conf" "/port:$port" >"$folder/dc" & ;;
+    dc) "${server_on[@]}" "$program" "/dc:$2" "/config:$folder/${conf:-dc.conf}" "/port:$port" >"$folder/dc" & ;;
     strace)
         strace -qq -c -o "$folder/calls" \
             "$program" "/dc:$2" "/config:$folder/dc.conf" "/port:$port" >"$folder/dc" &
@@ -57,9 +58,12 @@ serve() {
 }
 
 # One run: a server, so many requests of so many bytes, and the four numbers of dc_load as $wall, $took, $memory, $lost.
+# A fourth word is how many accounts are asked for, as $conf has them.
 run() {
     serve "$1" $(($3 + 1))
-    "${load_on[@]}" "$folder/dc_load" "$port" "$server" "$3" $window "$folder/$2" >"$folder/numbers" || exit 1
+    # The port is there before the accounts are read.
+    [ -z "${4:-}" ] || sleep 0.5
+    "${load_on[@]}" "$folder/dc_load" "$port" "$server" "$3" $window "$folder/$2" ${4:+"$4"} >"$folder/numbers" || exit 1
     read -r wall took memory lost <"$folder/numbers"
     [ "$1" = chronyd ] && kill "$server"
     wait "$server"
@@ -100,6 +104,26 @@ done | awk -v n="$requests" '
         printf "dc: 68 bytes take %.2f us of the processor more than 48, and 120 bytes %.2f us\n",
             (took["dc", 68] - took["dc", 48]) / 1000, (took["dc", 120] - took["dc", 48]) / 1000
     }'
+
+# Ten accounts and a hundred thousand, in turn.
+for accounts in 10 100000; do
+    {
+        printf 'Name=DC1\nRole=Pdc\nRid=1000\n'
+        awk -v n=$accounts 'BEGIN { for (i = 0; i < n; i++) printf "account %d %032x\n", 1000 + i, i }'
+    } >"$folder/$accounts.conf"
+done
+for _ in $(seq "$runs"); do
+    for accounts in 10 100000; do
+        conf=$accounts.conf
+        run dc 68 "$requests" $accounts
+        if [ "$took" -lt "${least_took[$conf]:-$((took + 1))}" ]; then least_took[$conf]=$took; fi
+    done
+done
+conf=
+awk -v n="$requests" -v few="${least_took[10.conf]}" -v many="${least_took[100000.conf]}" 'BEGIN {
+    printf "dc: 68 bytes with 10 accounts take %.2f us of the processor, with 100,000 %.2f us, %.2f times that\n",
+        few / n / 1000, many / n / 1000, many / few
+}'
 
 # What 2,000 requests more ask of the kernel more.
 if command -v strace >/dev/null; then

@@ -1,13 +1,14 @@
 /* A load of time requests for bench/dc.sh: keeps so many of them on the way to a server, and measures the server.
  *
- * dc_load PORT PROCESS REQUESTS WINDOW FILE
+ * dc_load PORT PROCESS REQUESTS WINDOW FILE [ACCOUNTS]
  *
  * Sends the bytes of FILE to 127.0.0.1:PORT so often, each with another transmit timestamp, with at most WINDOW of
  * them unanswered. It looks for replies without sleeping, so that no server pays for waking it. A datagram is a reply
  * where it has the request's length, and the seconds of its transmit timestamp as originate or, as an echo has it, as
  * transmit timestamp. Then it prints, on one line, nanoseconds on the wall, nanoseconds of the processor that the
  * server's process took meanwhile, kilobytes of memory that it had at most, and requests that were lost. A last
- * request, which isn't counted, takes up the server's last turn. */
+ * request, which isn't counted, takes up the server's last turn. With ACCOUNTS each request asks for another account:
+ * their RIDs are that many from 1000 on, and come in no order. */
 #include <arpa/inet.h>
 #include <errno.h>
 #include <netinet/in.h>
@@ -19,7 +20,10 @@
 #include <sys/socket.h>
 #include <time.h>
 
-enum { HEADER = 48, ORIGINATE = 24, TRANSMIT = 40, LONGEST = 256 };
+enum { HEADER = 48, ORIGINATE = 24, TRANSMIT = 40, KEY_IDENTIFIER = 48, LONGEST = 256 };
+
+/* So many accounts are asked for, or none but that of the file. */
+static uint32_t accounts;
 
 static const uint64_t PATIENCE = UINT64_C(5000000000);
 
@@ -79,11 +83,17 @@ static size_t request_of(const char *path, unsigned char *request)
     return len;
 }
 
-/* The number of the request stands in the last four bytes of its transmit timestamp. */
+/* The number of the request stands in the last four bytes of its transmit timestamp. A key identifier has its lowest
+ * byte first. */
 static void send_request(int client, unsigned char *request, size_t len, uint32_t number)
 {
     uint32_t word = htonl(number);
     memcpy(request + TRANSMIT + 4, &word, sizeof word);
+    if (accounts) {
+        uint32_t rid = 1000 + number * UINT64_C(48271) % accounts;
+        for (int i = 0; i < 4; i++)
+            request[KEY_IDENTIFIER + i] = rid >> 8 * i;
+    }
     if (send(client, request, len, 0) != (ssize_t)len)
         fail("send");
 }
@@ -135,14 +145,15 @@ static uint32_t load(int client, unsigned char *request, size_t len, uint32_t re
 
 int main(int count, char **words)
 {
-    if (count != 6) {
-        fprintf(stderr, "dc_load PORT PROCESS REQUESTS WINDOW FILE\n");
+    if (count != 6 && count != 7) {
+        fprintf(stderr, "dc_load PORT PROCESS REQUESTS WINDOW FILE [ACCOUNTS]\n");
         return 1;
     }
     const char *process = words[2];
     uint32_t requests = strtoul(words[3], NULL, 10), window = strtoul(words[4], NULL, 10);
     unsigned char request[LONGEST];
     size_t len = request_of(words[5], request);
+    accounts = count == 7 && len > HEADER ? strtoul(words[6], NULL, 10) : 0;
     int client = socket_to(atoi(words[1]));
 
     uint64_t took = number_of(process, "schedstat", ""), begin = nanoseconds();

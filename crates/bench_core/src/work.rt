@@ -5,7 +5,7 @@ ghost use Rattle.time_machine.specs.Events.{IsRead};
 use crate::replies::{Answers, KEY, PARTNER, REQUESTS, RID, history, is_reading};
 use capture_fmt::Event;
 use key_book::Account;
-use mac_kdf::{ext_sum, md5_sum};
+use mac_kdf::{ext_mac, ext_sum, md5_sum};
 use ms_auth::Kind;
 use phase_rule::Limits;
 use sntp_core::{Conf, Member, Outcome, Partners};
@@ -21,6 +21,7 @@ pub enum Work {
     Forged,
     Md5,
     Hmac,
+    Derived,
 }
 
 impl Work {
@@ -34,6 +35,7 @@ impl Work {
             "forged" => Some(Work::Forged),
             "md5" => Some(Work::Md5),
             "hmac" => Some(Work::Hmac),
+            "derived" => Some(Work::Derived),
             _ => None,
         }
     }
@@ -55,8 +57,7 @@ pub fn done(alloc: Global, work: Work, rounds: u32) -> Result<Counts, AllocError
         Work::Extended => stepped(alloc, Kind::Extended, Answers::Accepted, rounds),
         Work::Stray => stepped(alloc, Kind::Short, Answers::Stray, rounds),
         Work::Forged => stepped(alloc, Kind::Short, Answers::Forged, rounds),
-        Work::Md5 => Ok(digested(Kind::Short, rounds)),
-        Work::Hmac => Ok(digested(Kind::Extended, rounds)),
+        Work::Md5 | Work::Hmac | Work::Derived => Ok(digested(work, rounds)),
     }
 }
 
@@ -120,16 +121,19 @@ fn member(alloc: Global, kind: Kind) -> Result<Member, AllocError> {
     }))
 }
 
-/// The digests of as many headers as a round has requests. The sum of their first bytes stands for them.
-fn digested(kind: Kind, rounds: u32) -> Counts {
+/// The digests of as many headers as a round has requests. The sum of their first bytes stands for them. Those of extended
+/// messages are under a key that was derived once, or derived anew for each.
+fn digested(work: Work, rounds: u32) -> Counts {
     let mut counts = Counts::default();
+    let mac = ext_mac(&KEY, RID);
     let mut header = [0; 48];
     for _ in 0..rounds {
         for number in 0..REQUESTS {
             header[44..].copy_from_slice(&number.to_be_bytes());
-            let first = match kind {
-                Kind::Short => md5_sum(&KEY, &header)[0],
-                Kind::Extended => ext_sum(&KEY, RID, &header)[0],
+            let first = match work {
+                Work::Md5 => md5_sum(&KEY, &header)[0],
+                Work::Hmac => mac.sum_with(&header)[0],
+                _ => ext_sum(&KEY, RID, &header)[0],
             };
             counts.moved = counts.moved.saturating_add(u64::from(first));
         }

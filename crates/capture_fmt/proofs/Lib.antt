@@ -1,4 +1,5 @@
 mod Fields
+mod Filling
 mod Records
 mod Growing
 mod Reading

@@ -128,3 +128,7 @@ flaw_behind (Some fields) bytes = first_flaw fields bytes
 unfoldable pub record_flaw : List ℕ → Option Flaw
 record_flaw [] = Some Torn
 record_flaw (kind ∷ bytes) = flaw_behind (fields_of kind) bytes
+
+-- these bytes are neither a whole record nor at fault, so that the record can be judged only when more are seen
+abbrev pub IsCut : List ℕ → Type 0
+IsCut bytes = record_flaw bytes ≡ Some Torn

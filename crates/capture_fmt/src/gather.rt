@@ -1,11 +1,12 @@
 //! Gathering the bytes of the next record.
+ghost use Rattle.std.specs.Prelude.{◌≡◌};
 ghost use Rattle.capture_fmt.specs.Gather.{Gains, GatherCounts, Sees};
+ghost use Rattle.capture_fmt.specs.Record.{IsCut};
 
 use crate::Event;
+use crate::buffer::Buffer;
 use crate::decode::event_at;
 use crate::fault::Flaw;
-use crate::record::RECORD_LEN;
-use arrayvec::ArrayVec;
 use edge_traits::{Source, Take};
 
 /// What the bytes held show of the record that begins with them.
@@ -21,23 +22,25 @@ pub(crate) enum Gathered {
     Failed,
 }
 
-/// Takes bytes from the source, one at a time, until those held are a whole record or show a flaw.
-pub(crate) fn gather<S: Source>(source: &mut S, held: &mut ArrayVec<u8, RECORD_LEN>) -> Gathered
-    ensures gains { Gains held.old.items held.new.items (S.left source.old) (S.left source.new) }
-    ensures sees { Sees result held.new.items (S.left source.new) }
+/// Takes bytes from the source until those held are a whole record or show a flaw. Where they do already, the source
+/// isn't asked.
+pub(crate) fn gather<S: Source>(source: &mut S, held: &mut Buffer) -> Gathered
+    ensures gains { Gains held.old held.new (S.left source.old) (S.left source.new) }
+    ensures sees { Sees result held.new (S.left source.new) }
     ensures cause { GatherCounts result (S.faults source.old) (S.faults source.new) }
+    ensures unasked { ¬ IsCut held.old → source.new ≡ source.old }
 {
     loop {
-        match event_at(held.as_slice()) {
-            Ok((event, rest)) => return Gathered::Event(event, held.len() - rest.len()),
+        let bytes = held.as_slice();
+        match event_at(bytes) {
+            Ok((event, rest)) => return Gathered::Event(event, bytes.len() - rest.len()),
             // The bytes that come next may complete it.
             Err(Flaw::Torn) => {}
             Err(flaw) => return Gathered::Flawed(flaw),
         }
-        let mut byte = [0];
-        match source.read(&mut byte) {
-            Take::Bytes(_) => held.push(byte[0]),
-            Take::End if held.is_empty() => return Gathered::End,
+        match held.fill(source) {
+            Take::Bytes(_) => {}
+            Take::End if held.as_slice().is_empty() => return Gathered::End,
             Take::End => return Gathered::Flawed(Flaw::Torn),
             Take::Failed => return Gathered::Failed,
         }

@@ -14,6 +14,7 @@
 //! what a reader keeps and does. `specs/Gather.antt` belongs to the private part.
 #![tactic(auto)]
 
+mod buffer;
 mod decode;
 mod event;
 mod fault;

@@ -1,20 +1,20 @@
 //! Reading events one after the other.
-ghost use Rattle.std.specs.Prelude.{◌≡◌, ◌≢◌, ℕ, ◌≤◌, true, [], List, ◌++◌, Option, Some, Result, Err, IfOk, IfSome, drop};
-ghost use Rattle.arrayvec.specs.ArrayVec.{array_vec_len};
+ghost use Rattle.std.specs.Prelude.{◌≡◌, ◌≢◌, ℕ, ◌≤◌, true, [], List, ◌++◌, Option, Some, Result, Err, IfOk, IfSome};
 
+use crate::buffer::Buffer;
 use crate::gather::{Gathered, gather};
-use crate::record::{PLACE_LIMIT, RECORD_LEN};
+use crate::record::PLACE_LIMIT;
 use crate::{CaptureFault, Event};
-use arrayvec::ArrayVec;
 use edge_traits::Source;
 use std::marker::Model;
 
-/// Reads the events of a capture, one after the other. It keeps the place and the bytes that it took of the next record.
+/// Reads the events of a capture, one after the other. It keeps the place of the next record, and the bytes from there on
+/// that it took: 4,096 at most.
 #[derive(Drop)]
 pub struct EventReader {
     alive: bool,
     place: u64,
-    held: ArrayVec<u8, RECORD_LEN>,
+    held: Buffer,
 }
 
 impl Model for EventReader {
@@ -22,13 +22,14 @@ impl Model for EventReader {
 
     ghost Value = { Reader };
 
-    ghost view = { λ r. record { alive = r.alive; place = r.place; held = r.held.items } };
+    ghost view = { λ r. record { alive = r.alive; place = r.place; held = r.held } };
 }
 
 impl EventReader {
     ghost use Rattle.capture_fmt.specs.declared.event.Event.{Event};
     ghost use Rattle.capture_fmt.specs.declared.fault.CaptureFault.{CaptureFault};
     ghost use Rattle.capture_fmt.specs.Event.{EventFits};
+    ghost use Rattle.capture_fmt.specs.Record.{IsCut};
     ghost use Rattle.capture_fmt.specs.Capture.{StandsNext, place_limit};
     ghost use Rattle.capture_fmt.specs.Reader.{HasRead, NextCounts, Nexts, ReadsOn, marked};
 
@@ -40,7 +41,7 @@ impl EventReader {
         EventReader {
             alive: true,
             place: 0,
-            held: ArrayVec::new(),
+            held: Buffer::new(),
         }
     }
 
@@ -68,7 +69,10 @@ impl EventReader {
         ensures next { Nexts result self.old self.new (S.left source.old) (S.left source.new) }
         ensures fits { IfOk result (λ next. IfSome next EventFits) }
         ensures cause { NextCounts result (S.faults source.old) (S.faults source.new) }
+
+        // The source isn't asked at the limit, nor where the bytes held are a whole record or show a fault.
         ensures untouched { place_limit ≤ self.old.place → source.new ≡ source.old }
+        ensures unasked { ¬ IsCut self.old.held → source.new ≡ source.old }
 
         // Where the source tells its bytes, they decide, unless a read fails.
         ensures told { (bytes : List ℕ) → S.left source.old ≡ Some bytes → result ≢ Err CaptureFault.ReadFault
@@ -92,13 +96,14 @@ impl EventReader {
         ensures alive { self.new.alive ≡ true }
         ensures cause { NextCounts result (S.faults source.old) (S.faults source.new) }
         ensures untouched { place_limit ≤ self.old.place → source.new ≡ source.old }
+        ensures unasked { ¬ IsCut self.old.held → source.new ≡ source.old }
     {
         if self.place >= PLACE_LIMIT {
             return Err(CaptureFault::TooLong(self.place));
         }
         match gather(source, &mut self.held) {
             Gathered::Event(event, len) => {
-                drop_front(&mut self.held, len);
+                self.held.drop_front(len);
                 self.place += len as u64;
                 Ok(Some(event))
             }
@@ -107,14 +112,6 @@ impl EventReader {
             Gathered::Failed => Err(CaptureFault::ReadFault),
         }
     }
-}
-
-/// Drops the bytes of a record that was read.
-fn drop_front(held: &mut ArrayVec<u8, RECORD_LEN>, len: usize)
-    requires { len ≤ array_vec_len held.old }
-    ensures { held.new.items ≡ drop len held.old.items }
-{
-    held.drain(..len);
 }
 
 #[cfg(test)]

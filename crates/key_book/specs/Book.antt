@@ -17,3 +17,7 @@ pub record IsAccount (account : Account) : Type 0 where
 pub record IsBook (accounts : List Account) : Type 0 where
   pub fit : All IsAccount accounts
   pub distinct : AllPairs (λ (a b : Account). a.rid ≢ b.rid) accounts
+
+-- each account stands at its own number
+abbrev pub AreKeyed : List (ℕ × Account) → Type 0
+AreKeyed entries = All (λ (entry : ℕ × Account). entry.0 ≡ entry.1.rid) entries

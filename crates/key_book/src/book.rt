@@ -4,25 +4,29 @@ ghost use Rattle.key_book.specs.AccountBook.{account_of};
 
 use crate::print::print_accounts;
 use crate::{Account, Keys, NoMemory};
+use indexmap::IndexMap;
 use std::alloc::{AllocError, Global};
 use std::marker::Model;
 
 /// Accounts with distinct RIDs, in the order of their lines. Contracts see the list of them.
+///
+/// Each stands at its RID in a map that keeps the order, so that one is found without a look at the others.
 #[derive(Drop)]
 pub struct Book {
-    accounts: Vec<Account>,
+    accounts: IndexMap<u32, Account>,
 }
 
 impl Model for Book {
     ghost use Rattle.std.specs.Prelude.{List};
     ghost use Rattle.key_book.specs.declared.account.Account.{Account};
-    ghost use Rattle.key_book.specs.Book.{IsBook};
+    ghost use Rattle.indexmap.specs.IndexMap.{values};
+    ghost use Rattle.key_book.specs.Book.{AreKeyed, IsBook};
 
     ghost Value = { List Account };
 
-    ghost view = { λ book. book.accounts.items };
+    ghost view = { λ book. values book.accounts };
 
-    ghost invariant = { λ book. IsBook book.accounts.items };
+    ghost invariant = { λ book. IsBook (values book.accounts) × AreKeyed book.accounts.entries };
 }
 
 impl Book {
@@ -38,7 +42,7 @@ impl Book {
         ensures { result ≡ [] }
     {
         Book {
-            accounts: Vec::new(alloc),
+            accounts: IndexMap::new(alloc),
         }
     }
 
@@ -50,7 +54,7 @@ impl Book {
         ensures ok { OnOk result (self.new ≡ self.old ++ account ∷ []) }
         ensures err { OnErr result (self.new ≡ self.old) }
     {
-        self.accounts.push(account)?;
+        self.accounts.insert(account.rid, account)?;
         Ok(())
     }
 
@@ -62,22 +66,22 @@ impl Book {
         ensures lines { IfOk result (λ text. text.items ≡ printed self.now) }
         ensures read_again { IfOk result (λ text. IsAnswer (lines text.items) (Ok self.now)) }
     {
-        print_accounts(alloc, &self.accounts).map_err(|_| NoMemory)
+        print_accounts(alloc, self.accounts.values().as_slice()).map_err(|_| NoMemory)
+    }
+
+    /// The account that stands at this RID.
+    fn at(&self, rid: u32) -> Option<Account>
+        ensures { result ≡ account_of self.now rid }
+    {
+        self.accounts.get(&rid).copied()
     }
 }
 
-/// The accounts of the book, searched from the front.
+/// The accounts of the book, each found by its RID.
 impl Keys for Book {
     ghost accounts = { λ book. book };
 
     fn find(&self, rid: u32) -> Option<Account> {
-        first_with(&self.accounts, rid)
+        self.at(rid)
     }
-}
-
-/// The first account with this number.
-fn first_with(accounts: &[Account], rid: u32) -> Option<Account>
-    ensures { result ≡ account_of accounts.now rid }
-{
-    accounts.iter().copied().find(|account| account.rid == rid)
 }

@@ -8,11 +8,13 @@
 //! answers; what [`Book::print`] writes says the same book again. [`read_account`] reads one line for texts that have
 //! others beside. Want of memory is the one answer that comes freely. `{:?}` of an account shows no key.
 //!
-//! The crate stands on `text_grammar` (lines, numbers and keys), `hex` and `thiserror`. The layer above may
-//! rely on the clauses of `find`, `parse_accounts` and `print`, and on `key_of`, the key that a RID and the
-//! wish for the old one name in a list. The definitions stand in `specs/`: accounts and what is looked up in
-//! `AccountBook.antt`, what a book holds in `Book.antt`, the account line in `AccountText.antt`, and what the
-//! reader answers in `Parsing.antt`.
+//! The crate stands on `text_grammar` (lines, numbers and keys), `hex`, `indexmap` and `thiserror`. A book keeps its
+//! accounts in the map of `indexmap`, in their order and each at its RID. So an account is found without a look at
+//! the others, and a text of many accounts is read in a time that grows as its lines do. The layer above may rely on
+//! the clauses of `find`, `parse_accounts` and `print`, and on `key_of`, the key that a RID and the wish for the old
+//! one name in a list. The definitions stand in `specs/`: accounts and what is looked up in `AccountBook.antt`, what
+//! a book holds in `Book.antt`, the account line in `AccountText.antt`, and what the reader answers in
+//! `Parsing.antt`.
 #![tactic(auto)]
 
 mod account;

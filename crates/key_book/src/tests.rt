@@ -207,21 +207,55 @@ fn longest_text(rt: HostRuntime) -> Result<(), Fail> {
     Ok(())
 }
 
-#[test]
-fn many_accounts(rt: HostRuntime) -> Result<(), Fail> {
-    let alloc = rt.alloc();
-    let mut text = String::new(alloc);
-    for rid in 0..1_000 {
-        let line = format!(in alloc; "account {rid} 00000000000000000000000000000000\n")?;
-        text.push_str(&line)?;
+/// The RID of a line, each its own below 100,003, a prime.
+fn rid_of(step: u64, line: u64) -> u32 {
+    (step.wrapping_mul(line) % 100_003) as u32
+}
+
+/// The account lines of 1 to 100,000, and behind them one with the RID of this number.
+fn long_text(alloc: Global, step: u64, last: u64) -> Result<Vec<u8>, Fail> {
+    let mut text = Vec::new(alloc);
+    for line in 1..100_002 {
+        let rid = rid_of(step, if line > 100_000 { last } else { line });
+        let account = format!(in alloc; "account {rid} 00000000000000000000000000000000\n")?;
+        text.extend_from_slice(account.as_bytes())?;
     }
-    let book = printed(alloc, text.as_bytes())?.map_err(|_| "a book")?;
-    assert_eq!(rt; book.as_slice(), text.as_bytes());
-    text.push_str("account 999 11111111111111111111111111111111")?;
-    assert_eq!(rt;
-        printed(alloc, text.as_bytes())?.err(),
-        Some(BookFault::TwiceRid(1_001))
-    );
+    Ok(text)
+}
+
+/// The RIDs rise, fall and are scattered. A further line has that of the first, of one between, or of the last.
+#[test]
+fn hundred_thousand_accounts(rt: HostRuntime) -> Result<(), Fail> {
+    for (step, again) in [(1, 1), (100_002, 50_000), (48_271, 100_000)] {
+        let text = long_text(rt.alloc(), step, again)?;
+        assert_eq!(rt;
+            printed(rt.alloc(), &text)?.err(),
+            Some(BookFault::TwiceRid(100_001))
+        );
+        let text = long_text(rt.alloc(), step, 100_001)?;
+        let book = printed(rt.alloc(), &text)?.map_err(|_| "a book")?;
+        assert_eq!(rt; book.as_slice(), text.as_slice());
+    }
+    Ok(())
+}
+
+/// Accounts are found by their RIDs among many, and other RIDs are not.
+#[test]
+fn found_among_many(rt: HostRuntime) -> Result<(), Fail> {
+    let text = long_text(rt.alloc(), 48_271, 100_001)?;
+    assert!(rt; text.len() <= 16_777_217);
+    let book = parse_accounts(rt.alloc(), &text).map_err(|_| "a book")?;
+    for line in [1, 2, 50_000, 100_000, 100_001] {
+        let rid = rid_of(48_271, line);
+        assert_eq!(rt;
+            book.find(rid).map(|account| account.rid),
+            Some(rid),
+            "at {line}"
+        );
+    }
+    for rid in [0, 100_003, 4_294_967_295] {
+        assert!(rt; book.find(rid).is_none(), "at {rid}");
+    }
     Ok(())
 }
 

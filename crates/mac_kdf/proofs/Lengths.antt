@@ -1,10 +1,9 @@
 -- How long a digest is, whatever it was made of.
-use Rattle.std.proofs.Common.{◌≡◌, ℕ, List, ◌++◌, length, codes, refl}
-use Rattle.std.specs.Int.{w32, to_le_bytes}
+use Rattle.std.proofs.Common.{◌≡◌, ℕ, List, ◌++◌, length, refl}
 use Rattle.md5.specs.Md5.{md5}
 use Rattle.md5.specs.Md5 as md5_words
 use Rattle.sha2.specs.Sha512.{sha512, digest_bytes}
-use Rattle.mac_kdf.specs.Digests.{ext_digest, kdf, md5_digest}
+use Rattle.mac_kdf.specs.Digests.{ext_digest, ext_key, md5_digest}
 use Rattle.mac_kdf.specs.Hmac.{block_key, hmac, masked}
 
 length-sha512 : (m : List ℕ) → length (sha512 m) ≡ 64
@@ -21,4 +20,4 @@ length-md5_digest key header = refl
 
 pub length-ext_digest : (key : List ℕ) (rid : ℕ) (header : List ℕ) → length (ext_digest key rid header) ≡ 64
 unfolding ext_digest
-length-ext_digest key rid header = length-hmac (kdf key (codes "sntp-ms") (to_le_bytes w32 rid)) header
+length-ext_digest key rid header = length-hmac (ext_key key rid) header

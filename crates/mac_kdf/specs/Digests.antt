@@ -14,6 +14,10 @@ kdf key label context =
 unfoldable pub md5_digest : List ℕ → List ℕ → List ℕ
 md5_digest key header = md5 (key ++ header)
 
--- HMAC of the header, under a key that is derived for the relative identifier, least significant byte first
+-- the key that is derived from an account's key for its relative identifier, least significant byte first
+unfoldable pub ext_key : List ℕ → ℕ → List ℕ
+ext_key key rid = kdf key (codes "sntp-ms") (to_le_bytes w32 rid)
+
+-- HMAC of the header, under that key
 unfoldable pub ext_digest : List ℕ → ℕ → List ℕ → List ℕ
-ext_digest key rid header = hmac (kdf key (codes "sntp-ms") (to_le_bytes w32 rid)) header
+ext_digest key rid header = hmac (ext_key key rid) header

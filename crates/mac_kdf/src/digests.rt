@@ -1,6 +1,7 @@
 //! The derived key, and the digests of both kinds of signed messages.
-ghost use Rattle.std.specs.Prelude.{◌≡◌};
-ghost use Rattle.mac_kdf.specs.Digests.{ext_digest, kdf, md5_digest};
+ghost use Rattle.std.specs.Prelude.{◌≡◌, []};
+ghost use Rattle.mac_kdf.specs.Digests.{ext_digest, ext_key, kdf, md5_digest};
+ghost use Rattle.mac_kdf.specs.Taken.{HasTaken};
 
 use crate::Hmac;
 use md5::{Digest, Md5};
@@ -45,8 +46,14 @@ pub fn md5_sum(key: &[u8; 16], header: &[u8; 48]) -> [u8; 16]
 pub fn ext_sum(key: &[u8; 16], rid: u32, header: &[u8; 48]) -> [u8; 64]
     ensures { result ≡ ext_digest key.now rid header.now }
 {
-    let derived = derive(key, SNTP_LABEL, &rid.to_le_bytes());
-    let mut mac = Hmac::new(&derived);
-    mac.update(header);
-    mac.finalize()
+    ext_mac(key, rid).sum_with(header)
+}
+
+/// The HMAC of an account's messages of 120 bytes, before any text: begun with the key that is derived from the
+/// account's key for its relative identifier.
+#[tactic(auto, unfolding(crate::specs::Digests::ext_key))]
+pub fn ext_mac(key: &[u8; 16], rid: u32) -> Hmac
+    ensures { HasTaken result (ext_key key.now rid) [] }
+{
+    Hmac::new(&derive(key, SNTP_LABEL, &rid.to_le_bytes()))
 }

@@ -55,6 +55,30 @@ impl Hmac {
         outer.update(digest);
         outer.finalize()
     }
+
+    /// The HMAC of the text that was taken and this piece. The piece isn't taken: so one HMAC serves for many texts
+    /// under its key, whose two blocks are hashed once.
+    #[tactic(auto, unfolding(crate::specs::Taken::HasTaken))]
+    pub fn sum_with(&self, piece: &[u8]) -> [u8; 64]
+        ensures { (key text : List ℕ) → HasTaken self.now key text → result ≡ hmac key (text ++ piece.now) }
+    {
+        let mut mac = Hmac {
+            inner: copy(&self.inner),
+            outer: copy(&self.outer),
+        };
+        mac.update(piece);
+        mac.finalize()
+    }
+}
+
+/// Another hasher that holds the same text.
+fn copy(hasher: &Sha512) -> Sha512
+    ensures { result ≡ hasher.now }
+{
+    match hasher.clone() {
+        Ok(other) => other,
+        Err(_) => unreachable!(),
+    }
 }
 
 /// The key as one block: itself, or its digest where it is longer, and zero bytes after it.

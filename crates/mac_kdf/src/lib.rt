@@ -16,5 +16,5 @@ mod hmac;
 #[cfg(test)]
 mod tests;
 
-pub use digests::{derive, ext_sum, md5_sum};
+pub use digests::{derive, ext_mac, ext_sum, md5_sum};
 pub use hmac::Hmac;

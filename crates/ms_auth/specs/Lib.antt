@@ -1,4 +1,5 @@
 pub mod Digest
 pub mod Fields
 pub mod Packet
+pub mod Ready
 pub mod Request

@@ -57,7 +57,7 @@ pub fn check(packet: &Packet, key: &[u8; 16]) -> bool
 }
 
 /// The bytes that a checksum is of.
-fn bytes_of(header: &Header) -> [u8; HEADER_LEN]
+pub(crate) fn bytes_of(header: &Header) -> [u8; HEADER_LEN]
     ensures { result ≡ header_bytes header.now }
 {
     let mut bytes = [0; HEADER_LEN];

@@ -1,4 +1,5 @@
 mod Orders
 pub mod Parsings
 mod Ranks
+mod SameNames
 mod Steps

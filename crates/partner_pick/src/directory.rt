@@ -1,8 +1,10 @@
 //! The list of the computers that may be asked.
-ghost use Rattle.std.specs.Prelude.{◌≡◌, ◌<◌, ◌↔◌, ◌∷◌, ◌++◌, [], Err, IsTrue, OnErr, OnOk, Some, length, slice_get};
+ghost use Rattle.std.specs.Prelude.{◌≡◌, ◌<◌, ◌↔◌, ◌∷◌, ◌++◌, [], Err, OnErr, OnOk, Some, length, slice_get};
 ghost use Rattle.partner_pick.specs.Names.{AreDistinct, HasName};
 
-use crate::{Entry, NameText};
+use crate::Entry;
+use crate::named::Named;
+use indexmap::IndexSet;
 use std::alloc::Global;
 use std::marker::Model;
 
@@ -16,9 +18,11 @@ pub enum AddFault {
 }
 
 /// Entries with distinct names, in the order of their lines.
+///
+/// They stand in a set that keeps the order, so that a name is looked up without a look at the others.
 #[derive(Drop)]
 pub struct Directory {
-    entries: Vec<Entry>,
+    entries: IndexSet<Named>,
 }
 
 impl Model for Directory {
@@ -28,9 +32,9 @@ impl Model for Directory {
 
     ghost Value = { List Entry };
 
-    ghost view = { λ directory. directory.entries.items };
+    ghost view = { λ directory. directory.entries.keys };
 
-    ghost invariant = { λ directory. AreDistinct directory.entries.items };
+    ghost invariant = { λ directory. AreDistinct directory.entries.keys };
 }
 
 impl Directory {
@@ -39,7 +43,7 @@ impl Directory {
         ensures { result ≡ [] }
     {
         Directory {
-            entries: Vec::new(alloc),
+            entries: IndexSet::new(alloc),
         }
     }
 
@@ -56,7 +60,7 @@ impl Directory {
         requires { i < length self.now }
         ensures { slice_get self.now i ≡ Some result.now }
     {
-        &self.entries[i]
+        self.entries.as_slice()[i].entry()
     }
 
     /// Adds an entry at the end, unless one of its name is there.
@@ -65,18 +69,10 @@ impl Directory {
         ensures twice { (result ≡ Err AddFault.Twice) ↔ HasName self.old entry.name }
         ensures err { OnErr result (self.new ≡ self.old) }
     {
-        if self.has(&entry.name) {
-            return Err(AddFault::Twice);
+        match self.entries.insert(Named::new(entry)) {
+            Ok(true) => Ok(()),
+            Ok(false) => Err(AddFault::Twice),
+            Err(_) => Err(AddFault::NoMemory),
         }
-        self.entries.push(entry).map_err(|_| AddFault::NoMemory)
-    }
-
-    /// Whether there is an entry of this name.
-    fn has(&self, name: &NameText) -> bool
-        ensures { IsTrue result ↔ HasName self.now name.now }
-    {
-        self.entries
-            .iter()
-            .any(|entry| entry.name.as_slice() == name.as_slice())
     }
 }

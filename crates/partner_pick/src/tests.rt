@@ -259,6 +259,31 @@ fn first_bad_lines(rt: HostRuntime) -> Result<(), Fail> {
     Ok(())
 }
 
+/// The computer lines of 1 to 1,000, and behind them one with the name of this number.
+fn computers(alloc: Global, last: u32) -> Result<String, Fail> {
+    let mut text = String::new(alloc);
+    for line in 1..1_002 {
+        let number = if line > 1_000 { last } else { line };
+        let computer = format!(in alloc; "computer DC{number} 10.0.0.1:123 ----\n")?;
+        text.push_str(&computer)?;
+    }
+    Ok(text)
+}
+
+#[test]
+fn a_name_twice_among_many(rt: HostRuntime) -> Result<(), Fail> {
+    for again in [1, 500, 1_000] {
+        let text = computers(rt.alloc(), again)?;
+        assert_eq!(rt;
+            read(rt.alloc(), text.as_bytes())?.err(),
+            Some(DirFault::TwiceName(1_001))
+        );
+    }
+    let text = computers(rt.alloc(), 1_001)?;
+    assert_eq!(rt; directory(rt.alloc(), &text)?.len(), 1_001);
+    Ok(())
+}
+
 #[test]
 fn names_of_63_bytes(rt: HostRuntime) {
     assert!(rt; NameText::from_slice(&[b'a'; 63]).is_some());

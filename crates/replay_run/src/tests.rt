@@ -49,7 +49,7 @@ const THIRD: &[u8; 68] =
 \x00\x00\x00\x03\x00\x00\x00\x03\xE1\xB6\x67\x83\x00\x00\x00\x00\xE1\xB6\x67\x83\x00\x41\x89\x38\
 \x4F\x04\x00\x00\x69\x29\xC1\xA1\x01\xDF\xD5\xB3\x37\xC5\xC4\x2A\x71\x15\xA1\x7E";
 
-/// Bytes in memory. The read with this number fails.
+/// Bytes in memory, one a read. The read with this number fails.
 #[derive(Drop)]
 struct Bytes<'a> {
     bytes: &'a [u8],
@@ -75,10 +75,9 @@ impl Source for Bytes<'_> {
         if self.at >= self.bytes.len() {
             return Take::End;
         }
-        let len = buf.len().min(self.bytes.len() - self.at);
-        buf[..len].copy_from_slice(&self.bytes[self.at..self.at + len]);
-        self.at += len;
-        Take::Bytes(len)
+        buf[0] = self.bytes[self.at];
+        self.at += 1;
+        Take::Bytes(1)
     }
 }
 

@@ -1,4 +1,5 @@
 pub mod Carrying
+pub mod Finding
 pub mod Places
 pub mod Reading
 pub mod Standings

@@ -1,3 +1,5 @@
 pub mod Standing
 pub mod Packets
 pub mod Ranges
+pub mod Open
+pub mod Keys

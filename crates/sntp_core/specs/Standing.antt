@@ -23,7 +23,7 @@ words_of m =
       base = m.base;
       poll = m.poll;
       changes = m.partner;
-      open_requests = m.open_requests.items;
+      open_requests = m.open_requests;
       source = m.source;
     }
 

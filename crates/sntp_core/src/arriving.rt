@@ -1,26 +1,21 @@
 //! What arrives: the first reason for which it is refused, or the correction.
-ghost use Rattle.std.specs.Prelude.{◌≡◌, ◌<◌, ◌^◌, ◌≤ℤ◌, ◌+ℤ◌, pos, false, not, find, Some, unsigned_abs};
-ghost use Rattle.std.specs.Option.{option_map_or};
+ghost use Rattle.std.specs.Prelude.{◌≡◌, ◌<◌, ◌^◌, ◌≤ℤ◌, ◌+ℤ◌, pos, true, not, find, Some, unsigned_abs};
 ghost use Rattle.base_specs.specs.Time.{IsReading};
 ghost use Rattle.ntp_wire.specs.Stamp.{IsInReach};
 ghost use Rattle.time_machine.specs.Told.{base_moved};
 ghost use Rattle.time_machine.specs.Verdict.{is_answered, is_bad_source};
-ghost use Rattle.sntp_core.specs.Packets.{is_tail_of, names_another, carries, carries_either};
+ghost use Rattle.sntp_core.specs.Packets.{is_tail_of, names_another};
 ghost use Rattle.sntp_core.specs.Ranges.{IsBase};
 
 use crate::Member;
 use edge_traits::Addr;
-use key_book::Account;
-use ms_auth::{Kind, Packet, SIGNATURE_HASH, Tail, check, read_packet, short_rid};
-use ntp_wire::{Header, Stamp, to_ticks};
+use ms_auth::{Kind, Packet, SIGNATURE_HASH, Tail, read_packet, short_rid};
+use ntp_wire::{Header, to_ticks};
 use phase_rule::{Judged, judge, next_poll};
 use time_machine::{
     How, Outcome, Reason, Request, has_bad_times, is_bad_mode, is_bad_stratum, is_same_addr,
     offset_of,
 };
-
-/// How long a request can be answered, in ticks: ten seconds.
-const WINDOW: i64 = 100_000_000;
 
 impl Member {
     ghost use Rattle.time_machine.specs.Told.{IsRefused};
@@ -96,11 +91,12 @@ impl Member {
     /// What a message of the present partner's leads to.
     fn server_verdict(&self, now: i64, packet: &Packet) -> Outcome
         requires now { IsReading now }
+        requires tail { is_tail_of self.now.conf.kind packet.now.tail ≡ true }
         ensures same { result ≡ verdict_on_packet self.now.conf now packet.now
-            (find (is_answered now packet.now.header.originate) self.now.open_requests.items) }
+            (find (is_answered now packet.now.header.originate) self.now.open_requests) }
         ensures small { IsSmall result }
     {
-        match self.answered(now, packet.header.originate) {
+        match self.open_requests.answered(now, packet.header.originate) {
             None => Outcome::Refused(Reason::NoRequest),
             Some(request) => self.reply_verdict(now, packet, &request),
         }
@@ -114,21 +110,11 @@ impl Member {
         is_same_addr(from, self.partner_address())
     }
 
-    /// The open request with this timestamp that can be answered at this reading.
-    fn answered(&self, now: i64, stamp: Stamp) -> Option<Request>
-        requires { IsReading now }
-        ensures { result ≡ find (is_answered now stamp) self.now.open_requests.items }
-    {
-        self.open_requests
-            .as_slice()
-            .iter()
-            .copied()
-            .find(|request| is_answered(request, now, stamp))
-    }
-
     /// What a reply to this request leads to.
+    #[tactic(auto, using(crate::proofs::Carrying::tail_for))]
     fn reply_verdict(&self, now: i64, packet: &Packet, request: &Request) -> Outcome
         requires now { IsReading now }
+        requires tail { is_tail_of self.now.conf.kind packet.now.tail ≡ true }
         requires before { request.now.at ≤ℤ now }
         requires window { now ≤ℤ (request.now.at +ℤ pos 100000000) }
         ensures same { result ≡ verdict_on_packet self.now.conf now packet.now (Some request.now) }
@@ -136,7 +122,7 @@ impl Member {
     {
         if names_another(self.conf.account.rid, &packet.tail) {
             Outcome::Refused(Reason::BadKeyId)
-        } else if !carries_either(&self.conf.account, packet) {
+        } else if !self.keys.carries_either(packet) {
             Outcome::Refused(Reason::BadDigest)
         } else {
             let received = to_ticks(packet.header.receive, now);
@@ -176,17 +162,6 @@ impl Member {
     }
 }
 
-/// Whether the timestamp is the request's, which can be answered at this reading.
-fn is_answered(request: &Request, now: i64, stamp: Stamp) -> bool
-    requires { IsReading now }
-    ensures { result ≡ is_answered now stamp request.now }
-{
-    request.count == stamp.seconds
-        && request.word == stamp.fraction
-        && request.at <= now
-        && now - WINDOW <= request.at
-}
-
 /// Whether the tail is that of a message of this kind.
 fn is_tail_of(kind: Kind, tail: &Tail) -> bool
     ensures { result ≡ is_tail_of kind tail.now }
@@ -211,30 +186,6 @@ fn names_another(rid: u32, tail: &Tail) -> bool
             ..
         } => *other != rid || *hash != SIGNATURE_HASH,
     }
-}
-
-/// Whether the message carries its checksum under the account's current or previous key.
-fn carries_either(account: &Account, packet: &Packet) -> bool
-    ensures { result ≡ carries_either account.now packet.now }
-{
-    carries(packet, &account.current) || carries_previous(packet, &account.previous)
-}
-
-/// Whether the message carries its checksum under the previous key, if there is one.
-fn carries_previous(packet: &Packet, previous: &Option<[u8; 16]>) -> bool
-    ensures { result ≡ option_map_or (λ key. carries key packet.now) previous.now false }
-{
-    match previous {
-        Some(key) => carries(packet, key),
-        None => false,
-    }
-}
-
-/// Whether the message carries its checksum under this key.
-fn carries(packet: &Packet, key: &[u8; 16]) -> bool
-    ensures { result ≡ carries key.now packet.now }
-{
-    check(packet, key)
 }
 
 /// The reading after a correction: a step moves the clock at once, a slew bit by bit.

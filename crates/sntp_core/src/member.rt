@@ -1,11 +1,13 @@
 //! The member.
-ghost use Rattle.std.specs.Prelude.{◌≡◌, ◌<◌, ◌≤◌, length};
+ghost use Rattle.std.specs.Prelude.{◌≡◌, ◌+◌, ◌<◌, ◌≤◌, length, unwrap_or};
 ghost use Rattle.std.specs.Option.{ForSome};
+ghost use Rattle.sntp_core.specs.Open.{AreBelow};
 ghost use Rattle.sntp_core.specs.Ranges.{IsBase};
 
-use arrayvec::ArrayVec;
+use crate::keys::Keys;
+use crate::open::OpenRequests;
 use capture_fmt::Event;
-use time_machine::{Conf, Outcome, Request};
+use time_machine::{Conf, Outcome};
 
 /// What a member keeps of all that happened.
 ///
@@ -13,6 +15,8 @@ use time_machine::{Conf, Outcome, Request};
 #[derive(Drop)]
 pub struct Member {
     pub(crate) conf: Conf,
+    /// The keys of its account.
+    pub(crate) keys: Keys,
     /// The mark of the last life.
     pub(crate) mark: Option<u32>,
     /// How many requests were sent in this life.
@@ -26,18 +30,20 @@ pub struct Member {
     /// The place of the present partner in rank.
     pub(crate) partner: usize,
     /// The requests that can be answered, in the order of sending.
-    pub(crate) open_requests: ArrayVec<Request, 8>,
+    pub(crate) open_requests: OpenRequests,
     /// The place in rank of the partner whose reply was last accepted in this life.
     pub(crate) source: Option<usize>,
     ghost base_in: { ForSome base IsBase },
     ghost poll_low: { conf.limits.min_poll ≤ poll },
     ghost poll_high: { poll ≤ conf.limits.max_poll },
     ghost partner_in: { partner < length conf.partners },
-    ghost few: { length open_requests.items ≤ 8 },
+    ghost few: { length open_requests ≤ 8 },
+    ghost counted: { AreBelow (unwrap_or mark 0 + sent + 1) open_requests },
+    ghost ready: { keys ≡ record { kind = conf.kind; account = conf.account } },
 }
 
 impl Member {
-    ghost use Rattle.std.specs.Prelude.{◌↔◌, ◌+◌, List, [], ◌∷◌, IsTrue, IfSome};
+    ghost use Rattle.std.specs.Prelude.{◌↔◌, List, [], ◌∷◌, IsTrue, IfSome};
     ghost use Rattle.time_machine.specs.Events.{History, IsRead};
     ghost use Rattle.time_machine.specs.Told.{IsRefused, count_moved};
     ghost use Rattle.time_machine.specs.Machine.{source_of, told, outcome_at, outcome_by};
@@ -51,18 +57,20 @@ impl Member {
         ensures conf { conf_of result ≡ conf }
         ensures stands { StandsForHistory result [] }
     {
+        let keys = Keys::new(conf.kind, &conf.account);
         let poll = conf.limits.min_poll;
         // There is one partner at least.
         let _partners = conf.partners.as_slice();
         Member {
             conf,
+            keys,
             mark: None,
             sent: 0,
             greatest: 0,
             base: None,
             poll,
             partner: 0,
-            open_requests: ArrayVec::new(),
+            open_requests: OpenRequests::new(),
             source: None,
         }
     }

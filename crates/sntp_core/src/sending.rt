@@ -81,7 +81,7 @@ impl Member {
 
     /// Whether the partner has left eight requests without an answer.
     fn is_full(&self) -> bool
-        ensures { result ≡ (length self.now.open_requests.items == 8) }
+        ensures { result ≡ (length self.now.open_requests == 8) }
     {
         self.open_requests.len() == MOST_OPEN
     }
@@ -107,7 +107,7 @@ impl Member {
     fn send(&mut self, now: i64, word: u32, resets: bool, changes: bool) -> Outcome
         requires now { IsReading now }
         requires counts { count_at (words_of self.old) < 2 ^ 32 }
-        requires room { length self.old.open_requests.items ≡ 8 → IsTrue (resets || changes) }
+        requires room { length self.old.open_requests ≡ 8 → IsTrue (resets || changes) }
         ensures conf { self.new.conf ≡ self.old.conf }
         ensures words { words_of self.new ≡ after_send self.old.conf (words_of self.old) resets changes now word }
         ensures outcome { result ≡ request_as self.old.conf (words_of self.old) resets changes word }
@@ -118,7 +118,7 @@ impl Member {
         self.sent += 1;
         self.greatest = count.max(self.greatest);
         self.base = Some(now);
-        self.open_requests.push(Request {
+        self.open_requests.add(Request {
             count,
             word,
             at: now,
@@ -153,10 +153,10 @@ impl Member {
 
     /// Closes all requests and sets the polling interval to its least, at a turning point.
     fn turn(&mut self, turns: bool)
-        requires { length self.old.open_requests.items ≡ 8 → IsTrue turns }
+        requires { length self.old.open_requests ≡ 8 → IsTrue turns }
         ensures conf { self.new.conf ≡ self.old.conf }
         ensures words { words_of self.new ≡ after_turn self.old.conf (words_of self.old) turns }
-        ensures room { length self.new.open_requests.items < 8 }
+        ensures room { length self.new.open_requests < 8 }
     {
         if turns {
             self.open_requests.clear();

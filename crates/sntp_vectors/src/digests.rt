@@ -6,7 +6,7 @@ use std::process::Abort;
 // The key 00 01 .. 0F.
 const KEY: [u8; 16] = [0, 1, 2, 3, 4, 5, 6, 7, 8, 9, 10, 11, 12, 13, 14, 15];
 
-// The text whole, byte by byte, and in two pieces.
+// The text whole, byte by byte, in two pieces, and twice over one beginning.
 fn expect_hmac(rt: &impl Abort, key: &[u8], text: &[u8], hex: &str) {
     let mut whole = Hmac::new(key);
     whole.update(text);
@@ -22,6 +22,8 @@ fn expect_hmac(rt: &impl Abort, key: &[u8], text: &[u8], hex: &str) {
     let mut halves = Hmac::new(key);
     halves.update(front);
     halves.update(&[]);
+    expect_hex(rt, &halves.sum_with(back), hex);
+    expect_hex(rt, &halves.sum_with(back), hex);
     halves.update(back);
     expect_hex(rt, &halves.finalize(), hex);
 }

@@ -1,6 +1,6 @@
 -- The lines of a text say one settings at most, and none where the text as a whole is bad.
-use Rattle.std.proofs.Common.{◌≡◌, ◌<◌, ◌≤◌, ◌^◌, ◌⊎◌, ℕ, inl, inr, List, Option, Some, None, refl, sym, subst, ◌∙◌, arith}
-use Rattle.std.specs.Prelude.{IsSome, IsNone}
+use Rattle.std.proofs.Common.{◌≡◌, ◌<◌, ◌≤◌, ◌^◌, ◌⊎◌, ℕ, Bool, false, inl, inr, List, Option, Some, None, refl, sym, subst, ◌∙◌, arith}
+use Rattle.std.specs.Prelude.{IsSome, IsNone, IsTrue, ◌↔◌}
 use Rattle.std.specs.Coded.{le_prop}
 use Rattle.std.proofs.lemmas.Bool.{cases_lt}
 use mathlib.Core.HLevel.{is_prop→PathP, →_prop}
@@ -80,6 +80,20 @@ whole_or_settings items s p (inr (inr (inr (inr (inr long))))) =
     let rid = some_is long.rid s.rid (sym long.set ∙ p.rid) in
     let small = s.short_rid (p.kind ∙ long.short) in
     omega (arith, long.long, rid, small)
+
+-- Rid is set, and no account has it
+pub no_account : (items : List Item) (rid : ℕ) → given rid_in (settings_of items) ≡ Some rid → NoneHas (accounts_of items) rid → IsBadWhole items
+no_account items rid set none = inr (inr (inr (inl record { rid = rid; set = set; none = none })))
+
+-- Rid is set, and no message of the kind can name it
+pub no_message : (items : List Item) (rid : ℕ) (kind : Kind) (can : Bool) → given rid_in (settings_of items) ≡ Some rid → kind ≡ auth_of (settings_of items)
+    → (IsTrue can ↔ (kind ≡ Short → rid < 2 ^ 31)) → can ≡ false → IsBadWhole items
+no_message items rid Short can set is says cannot =
+    elim (cases_lt rid (2 ^ 31)) [
+      | inl small ↦ absurd (cc (says.1 (λ short. small), cannot))
+      | inr long ↦ inr (inr (inr (inr (inr record { rid = rid; set = set; short = sym is; long = long }))))
+    ]
+no_message items rid Extended can set is says cannot = absurd (cc (says.1 (λ short. absurd (cc short)), cannot))
 
 -- good lines say settings, or the text as a whole is bad
 pub settings_or_whole : (items : List Item) → AllFit (settings_of items) → ((s : Settings) × AreSettings items s) ⊎ IsBadWhole items

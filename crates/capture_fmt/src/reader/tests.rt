@@ -4,6 +4,7 @@ ghost use Rattle.capture_fmt.specs.Event.{EventFits};
 
 use super::*;
 use crate::write_event;
+use arrayvec::ArrayVec;
 use edge_traits::{Addr, Datagram, Put, Sink, Take};
 use std::process::Abort;
 use std::test::Fail;
@@ -13,6 +14,9 @@ const CAPTURE: &[u8; 66] = b"\x01W32T\x01\xD5\xC0\x36\x69\x05\x00\x00\x00\x00\x0
 \x02\x01\xD5\xC0\x36\x69\x05\x00\x00\x5E\x88\x81\x16\
 \x03\x01\xD5\xC0\x36\x69\x05\x00\x01\x00\x00\x00\x07\x00\x00\x00\x04\
 \x04\x01\xD5\xC0\x36\x69\x05\x00\x02\x0A\x00\x00\x01\x00\x7B\x00\x02\x07\x08";
+
+/// How many events are read at most.
+const MOST_EVENTS: usize = 300;
 
 /// Bytes that come in pieces of this size at most. The read with this number fails.
 #[derive(Drop)]
@@ -115,7 +119,7 @@ fn datagram_of(event: &Event) -> &[u8] {
 /// How many events are read, and how they end. Only a fault leaves the reader dead.
 fn read_all<S: Source>(rt: &impl Abort, source: &mut S) -> (usize, Option<CaptureFault>) {
     let mut reader = EventReader::new();
-    for count in 0..100 {
+    for count in 0..MOST_EVENTS {
         if !reader.alive() {
             return (count, None);
         }
@@ -131,7 +135,7 @@ fn read_all<S: Source>(rt: &impl Abort, source: &mut S) -> (usize, Option<Captur
             }
         }
     }
-    (100, None)
+    (MOST_EVENTS, None)
 }
 
 /// The event is written as these bytes, and they are read as an event with these fields.
@@ -391,7 +395,7 @@ fn no_record_begins_at_the_limit(rt: HostRuntime) {
     let mut reader = EventReader {
         alive: true,
         place: (1 << 40) - 13,
-        held: ArrayVec::new(),
+        held: Buffer::new(),
     };
     let records = CAPTURE.as_slice();
     let mut source = in_pieces(&records[17..], 66, 0);
@@ -405,23 +409,27 @@ fn no_record_begins_at_the_limit(rt: HostRuntime) {
         )
     );
     assert!(rt; !reader.alive());
-    assert_eq!(rt; source.calls, 13);
+    assert_eq!(rt; source.calls, 1);
 }
 
 #[test]
 fn failed_calls(rt: HostRuntime) {
-    for (fails, count) in [
-        (1, 0),
-        (17, 0),
-        (18, 1),
-        (30, 1),
-        (31, 2),
-        (47, 2),
-        (48, 3),
-        (66, 3),
-        (67, 4),
+    for (size, fails, count) in [
+        (1, 1, 0),
+        (1, 17, 0),
+        (1, 18, 1),
+        (1, 30, 1),
+        (1, 31, 2),
+        (1, 47, 2),
+        (1, 48, 3),
+        (1, 66, 3),
+        (1, 67, 4),
+        (20, 2, 1),
+        (20, 3, 2),
+        (66, 1, 0),
+        (66, 2, 4),
     ] {
-        let mut source = in_pieces(CAPTURE, 66, fails);
+        let mut source = in_pieces(CAPTURE, size, fails);
         assert_eq!(rt;
             read_all(&rt, &mut source),
             (count, Some(CaptureFault::ReadFault)),
@@ -430,7 +438,7 @@ fn failed_calls(rt: HostRuntime) {
         assert_eq!(rt; source.calls, fails);
         assert_eq!(rt; source.faults, 1);
     }
-    assert_eq!(rt; read_all(&rt, &mut in_pieces(CAPTURE, 66, 68)), (4, None));
+    assert_eq!(rt; read_all(&rt, &mut in_pieces(CAPTURE, 66, 3)), (4, None));
 
     let mut sink = Kept {
         bytes: ArrayVec::new(),
@@ -444,4 +452,35 @@ fn failed_calls(rt: HostRuntime) {
     );
     assert_eq!(rt; sink.faults, 1);
     assert_eq!(rt; sink.calls, 1);
+}
+
+/// So many records of 17 bytes are one byte more than the buffer has room for.
+const LIVES: usize = 241;
+
+#[test]
+fn a_record_across_two_reads(rt: HostRuntime) {
+    let mut capture = [0; 17 * LIVES];
+    for life in 0..LIVES {
+        capture[17 * life..17 * life + 5].copy_from_slice(b"\x01W32T");
+    }
+    for (len, size, fails, want) in [
+        (4096, 1, 0, (240, Some(CaptureFault::Torn(4080)))),
+        (4096, 7, 0, (240, Some(CaptureFault::Torn(4080)))),
+        (4096, 4096, 0, (240, Some(CaptureFault::Torn(4080)))),
+        (4097, 1, 0, (241, None)),
+        (4097, 7, 0, (241, None)),
+        (4097, 4096, 0, (241, None)),
+        // One read gives what there is room for, the next one the byte behind it, and the last one the end.
+        (4097, 4097, 10, (241, None)),
+        (4097, 4097, 4, (241, None)),
+        (4097, 4097, 3, (241, Some(CaptureFault::ReadFault))),
+        (4097, 4097, 2, (240, Some(CaptureFault::ReadFault))),
+    ] {
+        assert!(rt; len <= capture.len());
+        assert_eq!(rt;
+            read_all(&rt, &mut in_pieces(&capture[..len], size, fails)),
+            want,
+            "{len} bytes in pieces of {size}, call {fails}"
+        );
+    }
 }

@@ -1,5 +1,6 @@
-use Rattle.std.proofs.Common.{◌≡◌, IfOk, Ok, Err, ℕ, List, Result, Vec, Global, sym}
+use Rattle.std.proofs.Common.{◌≡◌, IfOk, Ok, Err, ℕ, List, Result, Vec, Global, sym, ◌∙◌}
 use Rattle.std.specs.Prelude.{MatchResult, is_ok}
+use Rattle.std.specs.Map.{values_of}
 use Rattle.std.specs.Str.Lines.{lines}
 use Rattle.text_grammar.specs.Lines.{Say}
 use Rattle.key_book.specs.declared.account.Account.{Account}
@@ -23,8 +24,8 @@ says_again accounts book (Err e) is = tt
 
 pub returns-clause-read_again : goal.returns-clause-read_again
 returns-clause-read_again c =
-    let accounts = c.self.inside.accounts.items in
-    let print = rw c.deref.ensures.value at c.print_accounts.ensures in
-    let says = says_again accounts c.self.invariant c.print_accounts.result print in
+    let accounts = values_of c.self.inside.accounts.entries in
+    let print = rw (c.as_slice.ensures ∙ c.values.ensures.rest) at c.print_accounts.ensures in
+    let says = says_again accounts c.self.invariant.0 c.print_accounts.result print in
     let again = same_ok (λ text. Say account_text (lines text.items) accounts) _ c.print_accounts.result c.map_err.result c.map_err.ensures.cases c.map_err.ensures.variant says in
     rw (sym c.self.view_is) again

@@ -1,7 +1,7 @@
-use Rattle.std.proofs.Common.{◌≡◌, List, Option, sym, ◌∙◌, ap, subst, ◌↔◌, IfSome, IsNone}
-use Rattle.std.specs.Prelude.{Contains}
+use Rattle.std.proofs.Common.{Option, sym, subst, ◌↔◌, IfSome, IsNone}
+use Rattle.std.specs.Prelude.{◌≡◌, Contains}
 use Rattle.key_book.specs.declared.account.Account.{Account}
-use Rattle.key_book.specs.AccountBook.{account_of, NoneHas}
+use Rattle.key_book.specs.AccountBook.{NoneHas}
 use Rattle.key_book.proofs.Finding.{found, missing}
 use Rattle.key_book.proofs.book.BookKeys.find.Goals as goal
 
@@ -9,14 +9,12 @@ pub returns-clause-found : goal.returns-clause-found
 returns-clause-found c =
     let accounts = c.args.self.now in
     let rid = c.args.rid in
-    let is : c.first_with.result ≡ account_of accounts rid = c.first_with.ensures ∙ ap (λ (l : List Account). account_of l rid) (c.deref.ensures.value ∙ c.self.view_is) in
     let P : Option Account → Type 0 = λ o. IfSome o (λ (account : Account). Contains accounts account × (account.rid ≡ rid)) in
-    subst P (sym is) (found accounts rid)
+    subst P (sym c.at.ensures) (found accounts rid)
 
 pub returns-clause-missing : goal.returns-clause-missing
 returns-clause-missing c =
     let accounts = c.args.self.now in
     let rid = c.args.rid in
-    let is : c.first_with.result ≡ account_of accounts rid = c.first_with.ensures ∙ ap (λ (l : List Account). account_of l rid) (c.deref.ensures.value ∙ c.self.view_is) in
     let P : Option Account → Type 0 = λ o. IsNone o ↔ NoneHas accounts rid in
-    subst P (sym is) (missing accounts rid)
+    subst P (sym c.at.ensures) (missing accounts rid)

@@ -1,5 +1,0 @@
-use Rattle.sntp_core.proofs.Carrying.{carries_is}
-use Rattle.sntp_core.proofs.arriving.carries.Goals as goal
-
-pub returns : goal.returns
-returns c = carries_is c.args.key.now c.args.packet.now c.check.result c.check.ensures
