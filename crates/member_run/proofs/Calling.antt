@@ -239,6 +239,7 @@ wait_runs conf wait flags history a b kept kept' old new why r = record {
   grows = r.grows;
   tallies = r.tallies;
   ends = wait_ends wait why r.deeds r.ending r.taken r.need (faults_of a) (faults_of b) r.takes r.ends;
+  last_call = r.last_call;
   well = λ is. ap (waiting wait) (r.well is);
   reserved = r.reserved;
 }

@@ -1,16 +1,20 @@
 -- What the calls of a keeper leave on its disk.
-use Rattle.std.proofs.Common.{◌≡◌, ◌⊎◌, inl, inr, ◌+◌, ◌≤◌, ℕ, true, false, List, Option, Some, None, IfSome, is_some, refl, ◌∙◌, arith}
-use Rattle.std.specs.Prelude.{IsSomeAnd}
-use Rattle.slot_disk.specs.Calls.{LeavesOnly}
+use Rattle.std.proofs.Common.{◌≡◌, ◌⊎◌, inl, inr, ⊎_elim, ◌+◌, ◌-◌, ◌^◌, ◌<◌, ◌≤◌, ℕ, true, false, List, Option, Some, None, IfSome, is_some, refl, sym, ◌∙◌, arith}
+use Rattle.std.specs.Prelude.{Err, IsErrOf, IsSomeAnd}
+use Rattle.slot_disk.specs.Calls.{LeavesAtLast, LeavesOnly, WasCalled}
 use Rattle.slot_disk.specs.Told.{DiskTold, IsDisk}
 use Rattle.stamp_keep.specs.Image.{mark_of_image}
+use Rattle.stamp_keep.specs.declared.keeper.KeepFault.{KeepFault}
+use Rattle.stamp_keep.specs.declared.keeper.KeepFault.TheVariants as keep
 use Rattle.stamp_keep.specs.declared.keeper.Keeper.{Keeper}
-use Rattle.stamp_keep.specs.Keep.{Fits, IsLoadable, KeepsUnused, RefusedAsBefore, StandsForEither, kept_mark}
+use Rattle.stamp_keep.specs.Keep.{Fits, IsLoadable, KeepsMarks, KeepsUnused, RefusedAsBefore, StandsAsBefore, StandsForEither, kept_mark}
 use Rattle.stamp_keep.proofs.Moments.{and_then, started, weaker}
-use Rattle.run_deeds.specs.Marks.{KeepsLoadable}
+use Rattle.run_deeds.specs.Marks.{KeepsLoadable, StopCovers}
 use Rattle.member_run.specs.declared.running.Running.{Running}
-use Rattle.member_run.specs.Reserving.{IsLoadedFrom}
-use Rattle.member_run.specs.Running.{IsGoing, IsUsedUp, RisesWhereDue, kept_of}
+use Rattle.run_deeds.specs.declared.life_end.Why.{Why}
+use Rattle.run_deeds.specs.declared.life_end.Why.TheVariants.{DiskFault, StampsSpent}
+use Rattle.member_run.specs.Reserving.{IsLoadedFrom, why_of_fault}
+use Rattle.member_run.specs.Running.{IsGoing, IsUsedUp, RisesWhereDue, greatest_of, kept_of}
 
 -- ---- Loads
 
@@ -69,3 +73,59 @@ loaded_from old new keeper P disk run fits mark = record {
       let was : is_some old.content ≡ true = cc (is, run.tells) in
       (fits.loads image left, told_mark old.content image (kept_mark keeper) was (fits.stands image left) mark);
 }
+
+-- ---- Between two calls
+
+-- what is left just before the last call was left since the first one
+pub since_first : {old new : DiskTold} {P : List ℕ → Type 0} → IsDisk new → LeavesOnly old new P → WasCalled old new → LeavesAtLast new P
+since_first {old = old} {new = new} is run called = record {
+  each = λ room image left.
+      let made = called room in
+      run.each image (is.longer old.time (new.time - 1) image (omega (arith, made)) left);
+}
+
+kept_low : (kept mark : ℕ) → ((mark ≡ kept) ⊎ (mark ≡ kept + 64)) → kept ≤ mark
+kept_low kept mark either = ⊎_elim (λ e. omega (arith, e)) (λ e. omega (arith, e)) either
+
+-- at each moment of a reserve each image stands for the old mark or for more
+pub reserved_low : (running : Running) (old new : DiskTold) → LeavesOnly old new (StandsForEither (kept_of running) (kept_of running + 64))
+    → LeavesOnly old new (λ image. kept_of running ≤ mark_of_image image)
+reserved_low running old new run = weaker run (λ image either. kept_low (kept_of running) (mark_of_image image) either)
+
+pub still_low : (running : Running) (disk : DiskTold) → IsDisk disk → IsGoing disk running → LeavesOnly disk disk (λ image. kept_of running ≤ mark_of_image image)
+still_low running disk is going = started disk _ is (λ image left. omega (arith, going.fits.stands image left))
+
+-- a reserve that failed leaves what covers each count sent, just before the last call too
+pub reserved_stops : (running : Running) (old new : DiskTold) → IsDisk new → IsGoing old running
+    → LeavesOnly old new (StandsForEither (kept_of running) (kept_of running + 64)) → LeavesOnly old new (KeepsUnused old) → WasCalled old new
+    → StopCovers old new (greatest_of running)
+reserved_stops running old new is going run unused called = record {
+  each = λ room image left.
+      let low = (since_first is (reserved_low running old new run) called).each room image left in
+      let from = (since_first is unused called).each room image left in
+      (omega (arith, low, going.within, going.begun.greatest), (from.from, from.was, omega (arith, low, going.fits.stands from.from from.was)));
+}
+
+-- a load that failed leaves what stands for marks at entry
+pub loaded_stops : (old new : DiskTold) → IsDisk new → LeavesOnly old new (StandsAsBefore old) → WasCalled old new → StopCovers old new 0
+loaded_stops old new is run called = record {
+  each = λ room image left.
+      let as_before = (since_first is run called).each room image left in
+      (omega arith, (as_before.from, as_before.was, omega (arith, as_before.same)));
+}
+
+-- the same after what came before
+pub stops_then : {entry mid exit : DiskTold} (count : ℕ) → KeepsMarks entry mid → StopCovers mid exit count → StopCovers entry exit count
+stops_then count first next = record {
+  each = λ room image left.
+      let stop = next.each room image left in
+      let was = first.least stop.1.0 stop.1.1 in
+      (stop.0, (was.0, was.1, omega (arith, stop.1.2, was.2)));
+}
+
+-- a reserve at which the disk failed has called it
+pub called_of : {T : Type 0} (fault : KeepFault) (ended : Why) (old new : DiskTold) → ended ≡ why_of_fault fault → ended ≡ DiskFault → IsErrOf {T = T} (Err fault) keep.StampsSpent ⊎ WasCalled old new → WasCalled old new
+called_of fault ended old new gives is (inr called) = called
+called_of keep.StampsSpent ended old new gives is (inl spent) = absurd (let no : StampsSpent ≡ DiskFault = sym gives ∙ is in let bad : ⊥ = cc in bad)
+called_of keep.DiskFault ended old new gives is (inl spent) = absurd (let bad : ⊥ = cc in bad)
+called_of keep.BadVersion ended old new gives is (inl spent) = absurd (let bad : ⊥ = cc in bad)

@@ -45,8 +45,8 @@ use Rattle.run_deeds.specs.Counting.{ended, more, with_why}
 use Rattle.run_deeds.specs.Weaving.{Need, Start, Turns, WordFor, ReceiptNow, ReadingFor, Calls, CallWord, Round, RoundReading, Act, Stood, Weaves, none, acts, life, reads, draws, followed_by, posted_of, turns_of, weave}
 use Rattle.run_deeds.specs.Deeds.{Deed, Take, Print, Ending, Whole, NoRecord, NoLine, HasLine, IsWhole, all_done, along, cut_record, events_given, events_in, history_after, line_in, missing_in, posted_in, moves_in, printed, reasons_in, ticks_in}
 use Rattle.edge_seen.specs.Seen.{Seen}
-use Rattle.run_deeds.specs.Devices.{Faults, Given, IsBeforeRequest, IsBehind, IsBetween, IsInCalls, IsOver, IsToDo, LifeEndsBy, NeedsCount, NeedsDisk, NeedsMark, NeedsReading, NeedsReceipt, NeedsWord, SinkFailed, StopsAt, faults, living, faults_of}
-use Rattle.run_deeds.specs.Marks.{Covers, KeepsLoadable, MarksBeforeSends, Reserved, blocks_of}
+use Rattle.run_deeds.specs.Devices.{EndsAtLast, Faults, Given, IsBeforeRequest, IsBehind, IsBetween, IsInCalls, IsOver, IsToDo, LifeEndsBy, NeedsCount, NeedsDisk, NeedsMark, NeedsReading, NeedsReceipt, NeedsWord, SinkFailed, StopsAt, faults, living, faults_of}
+use Rattle.run_deeds.specs.Marks.{Covers, KeepsLoadable, MarksBeforeSends, Reserved, StopCovers, StopCoversSends, blocks_of}
 use Rattle.run_deeds.specs.Parts.{Part, Runs, Tallies}
 use Rattle.run_deeds.specs.Lives.{CallsForBlocks, KeptBy, Lives, Reports, StandsForBlocks, Totals, behind_act}
 use Rattle.run_deeds.proofs.Weaves.{is_weave}
@@ -60,7 +60,7 @@ use Rattle.member_run.specs.Starting.{HasBegun, HasStopped, IsOfStart}
 use Rattle.member_run.specs.Turning.{CallsFor, DueBy, TakesTurns}
 use Rattle.member_run.proofs.Ordered.{captured_is, ends_taken, followed_none, given_are, history_of, lines_are, moves_are, reasons_are, requests_are, reverse_last, ticks_are}
 use Rattle.member_run.proofs.Blocks.{NoLife, mark_in, mark_stays, sends_in, turns_later}
-use Rattle.member_run.proofs.Leaving.{left_now, unused_then}
+use Rattle.member_run.proofs.Leaving.{left_now, stops_then, unused_then}
 use Rattle.member_run.proofs.Parting.{last_one, no_print}
 use Rattle.member_run.proofs.Turning.{later_taken, loads_then, marks_then, taken_history, whole_given}
 
@@ -148,7 +148,7 @@ more_none (suc n) = grind (arith, nat_tests)
 up_to_last : (n m k : ℕ) → n ≡ more 0 m → m ≡ k → n ≡ min k (2 ^ 32 - 1)
 up_to_last n m k is same = is ∙ more_none m ∙ ap (λ (x : ℕ). min x (2 ^ 32 - 1)) same
 
-totals_are : (conf : Conf) (taken : List Event) (calls : List LinkCall) (deeds : List Deed) (new : LifeEnd) → deeds ≡ map Take taken
+pub totals_are : (conf : Conf) (taken : List Event) (calls : List LinkCall) (deeds : List Deed) (new : LifeEnd) → deeds ≡ map Take taken
     → Tallies conf [] deeds calls (ended Done) new → Totals conf taken calls new
 totals_are conf taken calls deeds new are t = record {
   sent = up_to_last _ _ _ t.sent (ap length (ap (along (posted_in conf) []) are ∙ sym (requests_are conf taken)));
@@ -166,6 +166,7 @@ run_history deeds ending taken takes = taken_history [] deeds ending taken takes
 pub record Lived (conf : Conf) (turns : ℕ) (stood : Stood) (before now : Seen) (given : Given) (taken : List Event) (ending : Ending) (need : Need) (end : LifeEnd) : Type 0 where
   pub weaves : Weaves conf (Start stood (Turns turns)) [] given.clock given.words given.link (taken ++ missing_in ending) need
   pub grows : Grows conf (reverse taken)
+  pub last_call : EndsAtLast ending given.link
   pub link : Grew before.link now.link given.link
   pub requests : map posted_of (sends_among given.link) ≡ requests_of conf (reverse taken)
   pub clock : Grew before.clock now.clock given.clock
@@ -180,7 +181,7 @@ pub record Lived (conf : Conf) (turns : ℕ) (stood : Stood) (before now : Seen)
 -- ---- Which event was not taken
 
 -- the line of a Life is not whole
-abbrev IsLifeLine : Ending → Type 0
+abbrev pub IsLifeLine : Ending → Type 0
 IsLifeLine (NoLine (Take (Life now mark)) front) = ⊤
 IsLifeLine _ = ⊥
 
@@ -247,9 +248,9 @@ stops_missing (NoLine (Take (Arrive now from bytes)) front) need stops = inl (at
 stops_missing (NoLine (Print line) front) need stops = inl (at_over need stops)
 
 -- where a run ended, it is known which event is missing, but where it is of no account
-known_missing : (why : Why) (ending : Ending) (need : Need) (a b : Faults) → LifeEndsBy why ending need a b → (why ≡ Done → need ≡ Turns 0)
+pub known_missing : (why : Why) (ending : Ending) (need : Need) (a b : Faults) → LifeEndsBy why ending need a b → (why ≡ Done → IsOver need)
     → IsMissing need (missing_in ending) ⊎ IsLifeLine ending
-known_missing Done ending need a b ends well = inl (missing_whole ending need ends.0 (subst (λ (n : Need). IsMissing n []) (sym (well refl)) refl))
+known_missing Done ending need a b ends well = inl (missing_whole ending need ends.0 (at_over need (well refl)))
 known_missing DiskFault ending need a b ends well = inl (missing_whole ending need ends.0 (at_disk need ends.1))
 known_missing BadVersion ending need a b ends well = inl (missing_whole ending need ends.0 (at_mark need ends.1))
 known_missing StampsSpent ending need a b ends well = inl (missing_whole ending need ends.0 (at_count need ends.1))
@@ -300,11 +301,12 @@ lived_of conf turns stood before now kept kept' new why r =
     record {
       weaves = weaves;
       grows = subst (λ (h : History). Grows conf h) (run_history r.deeds r.ending r.taken r.takes) r.grows;
+      last_call = r.last_call;
       link = r.does.link;
       requests = r.does.requests ∙ ap (along (posted_in conf) []) r.takes ∙ sym (requests_are conf r.taken);
       clock = r.does.clock;
       moves = r.does.moves ∙ ap (along (moves_in conf) []) r.takes ∙ sym (moves_are conf r.taken);
-      order = order_of conf turns stood r.given r.deeds r.taken r.ending r.need weaves r.takes (known_missing why r.ending r.need (faults_of before) (faults_of now) r.ends r.well);
+      order = order_of conf turns stood r.given r.deeds r.taken r.ending r.need weaves r.takes (known_missing why r.ending r.need (faults_of before) (faults_of now) r.ends (λ is. subst IsOver (sym (r.well is)) tt));
       words = r.does.words;
       fits = (all_split EventFits r.taken (missing_in r.ending) fit).0;
       capture = subst (λ (bs : List ℕ). Added before.capture now.capture bs) (captured_is r.deeds r.ending r.taken r.takes) r.does.capture;
@@ -312,7 +314,7 @@ lived_of conf turns stood before now kept kept' new why r =
       link_failed = r.does.link_failed;
     }
 
-totals_with : (conf : Conf) (taken : List Event) (calls : List LinkCall) (why : Why) (end : LifeEnd) → Totals conf taken calls end
+pub totals_with : (conf : Conf) (taken : List Event) (calls : List LinkCall) (why : Why) (end : LifeEnd) → Totals conf taken calls end
     → Totals conf taken calls (with_why why end)
 totals_with conf taken calls why end t =
     record { sent = t.sent; moved = t.moved; refused = t.refused; quiet = t.quiet; lost = t.lost; turns = t.turns }
@@ -353,11 +355,11 @@ reports_of conf end deeds (NoLine (Print line) front) need taken is not has =
 -- ---- The disk
 
 -- the requests of a run that began are those of its life
-tries : (conf : Conf) (mark : ℕ) (taken : List Event) (calls : List LinkCall) → BeginsLife mark taken → map posted_of (sends_among calls) ≡ requests_of conf (reverse taken)
+pub tries : (conf : Conf) (mark : ℕ) (taken : List Event) (calls : List LinkCall) → BeginsLife mark taken → map posted_of (sends_among calls) ≡ requests_of conf (reverse taken)
     → sends_in conf (reverse taken) ≡ length (sends_among calls)
 tries conf mark taken calls begins requests = life_sends conf mark taken begins ∙ ap length (sym requests) ∙ length-map (sends_among calls) posted_of
 
-kept_by : (conf : Conf) (why : Why) (stood : Stood) (taken : List Event) (entry exit : DiskTold) → BeginsLife stood.mark taken → DueBy why (told conf (reverse taken))
+pub kept_by : (conf : Conf) (why : Why) (stood : Stood) (taken : List Event) (entry exit : DiskTold) → BeginsLife stood.mark taken → DueBy why (told conf (reverse taken))
     → KeptBy why stood taken (told conf (reverse taken)) entry exit
 kept_by conf Done stood taken entry exit begins due = tt
 kept_by conf DiskFault stood taken entry exit begins due = inr due
@@ -373,7 +375,7 @@ kept_by conf ClockFault stood taken entry exit begins due = tt
 kept_by conf EntropyFault stood taken entry exit begins due = tt
 kept_by conf SinkFault stood taken entry exit begins due = tt
 
-marks_kept : (conf : Conf) (mark greatest : ℕ) (taken : List Event) (entry exit : DiskTold) → BeginsLife mark taken → Covers exit greatest
+pub marks_kept : (conf : Conf) (mark greatest : ℕ) (taken : List Event) (entry exit : DiskTold) → BeginsLife mark taken → Covers exit greatest
     → greatest ≡ greatest_count (told conf (reverse taken)) → KeepsMarks entry exit → MarksBeforeSends entry exit mark (told conf (reverse taken))
 marks_kept conf mark greatest taken entry exit begins covers is least =
     let before = told conf (reverse taken) in
@@ -384,7 +386,18 @@ marks_kept conf mark greatest taken entry exit begins covers is least =
       least = least;
     }
 
-some_as : {A : Type 0} (P Q : A → Type 0) (o : Option A) → ((x : A) → P x → Q x) → IfSome o P → IfSome o Q
+-- the same of what a stop leaves
+stops_kept : (conf : Conf) (greatest : ℕ) (taken : List Event) (entry exit : DiskTold) → greatest ≡ greatest_count (told conf (reverse taken))
+    → StopCovers entry exit greatest → StopCoversSends entry exit (told conf (reverse taken))
+stops_kept conf greatest taken entry exit is stops =
+    let before = told conf (reverse taken) in
+    record {
+      each = λ room image left.
+          let stop = stops.each room image left in
+          (all_weaken (λ r. r.count ≤ greatest_count before) (λ r. r.count ≤ mark_of_image image) (λ r low. omega (arith, low, is, stop.0)) (all_sent before) (counts_low before), stop.1);
+    }
+
+pub some_as : {A : Type 0} (P Q : A → Type 0) (o : Option A) → ((x : A) → P x → Q x) → IfSome o P → IfSome o Q
 some_as P Q None f h = tt
 some_as P Q (Some x) f h = f x h
 
@@ -442,26 +455,26 @@ turns_under conf kept turns history old new entry exit before now why set mark t
     let Q : ℕ → Type 0 = λ (k : ℕ). TurnsUnder conf k turns history old new entry exit before now why in
     subst Q mark (subst P set (record { part = t.part; disk = t.disk; blocks = t.blocks; most = t.most }))
 
-has_mark : (running : Running) (conf : Conf) (history : History) → conf_of (member_of running) ≡ conf → StandsForHistory (member_of running) history → IsSome (words_of (member_of running)).mark
+pub has_mark : (running : Running) (conf : Conf) (history : History) → conf_of (member_of running) ≡ conf → StandsForHistory (member_of running) history → IsSome (words_of (member_of running)).mark
     → IsSome (mark_in conf history)
 unfolding words
 has_mark running conf history set stands marked =
     let P : Conf → Type 0 = λ (c : Conf). IsSome (mark_in c history) in
     subst P set (subst (λ (w : Words). IsSome w.mark) stands.keeps marked)
 
-greatest_is : (running : Running) (conf : Conf) (history : History) → conf_of (member_of running) ≡ conf → StandsForHistory (member_of running) history
+pub greatest_is : (running : Running) (conf : Conf) (history : History) → conf_of (member_of running) ≡ conf → StandsForHistory (member_of running) history
     → greatest_of running ≡ greatest_count (told conf history)
 unfolding words
 greatest_is running conf history set stands =
     let P : Conf → Type 0 = λ (c : Conf). greatest_of running ≡ greatest_count (told c history) in
     subst P set (ap (λ (w : Words). w.greatest) stands.keeps)
 
-none_marked : (conf : Conf) → IsSome (mark_in conf []) → ⊥
+pub none_marked : (conf : Conf) → IsSome (mark_in conf []) → ⊥
 unfolding told
 none_marked conf is = let no : false ≡ true = is in let bad : ⊥ = cc in bad
 
 -- fewer calls, from a later moment
-blocks_within : (why : Why) (ending : Ending) (need : Need) (entries : List Told) (start start' end end' : ℕ) → start ≤ start' → end' ≤ end
+pub blocks_within : (why : Why) (ending : Ending) (need : Need) (entries : List Told) (start start' end end' : ℕ) → start ≤ start' → end' ≤ end
     → CallsForBlocks why ending need entries start end → CallsForBlocks why ending need entries start' end'
 blocks_within why ending need entries start start' end end' later fewer (inl few) = inl (omega (arith, later, fewer, few))
 blocks_within why ending need entries start start' end end' later fewer (inr (another, few)) = inr (another, omega (arith, later, fewer, few))
@@ -560,6 +573,7 @@ pub lives_made : (conf : Conf) (turns : ℕ) (entry exit : DiskTold) (before now
     → ((taken ≢ []) ⊎ ((end.why ≢ BadVersion) × (end.why ≢ DiskFault)) → IfSome entry.content IsLoadable)
     → KeepsLoadable entry exit
     → MarksBeforeSends entry exit stood.mark (told conf (reverse taken))
+    → (end.why ≡ DiskFault → StopCoversSends entry exit (told conf (reverse taken)))
     → (taken ≢ [] → stood.mark + 64 * blocks_of (life_at (told conf (reverse taken))) < 2 ^ 32)
     → exit.time ≤ entry.time + 4 + 5 * (1 + length (sends_among given.link) / 64)
     → CallsForBlocks end.why ending need (life_at (told conf (reverse taken))) (entry.time + 4) exit.time
@@ -569,7 +583,7 @@ pub lives_made : (conf : Conf) (turns : ℕ) (entry exit : DiskTold) (before now
     → IsLoadable image × StandsForBlocks end.why ending need (life_at (told conf (reverse taken))) stood.mark image)
     → (end.why ≡ Done → IfSome exit.content (λ c. mark_of_image c ≡ stood.mark + 64 * blocks_of (life_at (told conf (reverse taken)))))
     → Lives conf turns entry exit before now end
-lives_made conf turns entry exit before now stood given taken ending need end text stood_for lived reports out ends well life_last kept loadable loads marks within calls blocks most unused loaded reserved = record {
+lives_made conf turns entry exit before now stood given taken ending need end text stood_for lived reports out ends well life_last kept loadable loads marks stopped within calls blocks most unused loaded reserved = record {
   stood = stood;
   stood_for = stood_for;
   woven = record {
@@ -580,6 +594,7 @@ lives_made conf turns entry exit before now stood given taken ending need end te
     woven = is_weave lived.weaves;
     weaves = lived.weaves;
     grows = lived.grows;
+    last_call = lived.last_call;
   };
   effects = record {
     link = lived.link;
@@ -615,6 +630,7 @@ lives_made conf turns entry exit before now stood given taken ending need end te
     loadable = loadable;
     loads = loads;
     marks = marks;
+    stopped = stopped;
     within = within;
     calls = calls;
     blocks = blocks;
@@ -630,6 +646,7 @@ lived_with : (conf : Conf) (turns : ℕ) (stood : Stood) (before now : Seen) (gi
 lived_with conf turns stood before now given taken ending need why end lived = record {
   weaves = lived.weaves;
   grows = lived.grows;
+  last_call = lived.last_call;
   link = lived.link;
   requests = lived.requests;
   clock = lived.clock;
@@ -665,12 +682,12 @@ most_of conf turns stood mid exit before now new why p =
     subst P mark p.most
 
 -- those of the load stand for marks at entry
-most_with : {P : List ℕ → Type 0} (entry mid exit : DiskTold) → LeavesOnly entry mid (StandsAsBefore entry) → LeavesOnly mid exit P
+pub most_with : {P : List ℕ → Type 0} (entry mid exit : DiskTold) → LeavesOnly entry mid (StandsAsBefore entry) → LeavesOnly mid exit P
     → LeavesOnly entry exit (λ image. StandsAsBefore entry image ⊎ P image)
 most_with entry mid exit first next = and_then first next (λ image stands. inl stands) (λ image low. inr low)
 
 -- it can be loaded, as each image between the turns can
-loads_of : (mid exit : DiskTold) (running : Running) → IsGoing mid running → KeepsLoadable mid exit → (image : List ℕ) → exit.may_leave image → IsLoadable image
+pub loads_of : (mid exit : DiskTold) (running : Running) → IsGoing mid running → KeepsLoadable mid exit → (image : List ℕ) → exit.may_leave image → IsLoadable image
 loads_of mid exit running going keeps image left = λ other.
     let was = (keeps.each image left).from other in
     going.fits.loads was.0 was.1 was.2
@@ -693,9 +710,9 @@ pub record OnDisk (entry mid exit : DiskTold) : Type 0 where
 pub lives_stopped : (conf : Conf) (turns : ℕ) (entry mid exit : DiskTold) (before between now : Seen) (old new : Running) (why : Why) → why ≢ Done
     → HasBegun conf (Turns turns) entry before between old → IsGoing mid old
     → ((history : History) → StandsForHistory (member_of old) history → TakesTurns turns history old new mid exit between now why)
-    → OnDisk entry mid exit → Covers exit (greatest_of new)
+    → OnDisk entry mid exit → Covers exit (greatest_of new) → (why ≡ DiskFault → StopCovers mid exit (greatest_of new))
     → Lives conf turns entry exit before now (with_why why (totals_of new))
-lives_stopped conf turns entry mid exit before between now old new why not begun going took disk covers =
+lives_stopped conf turns entry mid exit before between now old new why not begun going took disk covers stops =
     let stood = begun.stood in
     let p = parted_of conf turns entry mid exit before between now old new why begun going took in
     let r = p.runs in
@@ -707,6 +724,7 @@ lives_stopped conf turns entry mid exit before between now old new why not begun
     (reports_of conf end r.deeds r.ending r.need r.taken r.takes not r.does.has_line) r.does.out r.ends r.well (λ is now only. absurd (p.behind is now only))
     (kept_by conf why stood r.taken entry exit p.begins p.due) (λ any. disk.loads) (loads_then disk.loads_first disk.loads_next)
     (marks_kept conf stood.mark (greatest_of new) r.taken entry exit p.begins covers p.greatest (marks_then disk.first disk.next))
+    (λ is. stops_kept conf (greatest_of new) r.taken entry exit p.greatest (stops_then (greatest_of new) disk.first (stops is)))
     (λ some. within_of conf turns stood mid exit before now new why p)
     (disk_calls conf turns stood entry mid exit before now new why r.given.link p lived.requests disk.start)
     (blocks_within why r.ending r.need (life_at (told conf (reverse r.taken))) mid.time (entry.time + 4) exit.time exit.time disk.start (omega arith) p.blocks)
@@ -726,12 +744,13 @@ report_whole conf deeds taken is = ap (along (line_in conf) []) is ∙ sym (line
 
 -- the same where nothing but the report changed
 lived_as : (others : Seen) (conf : Conf) (turns : ℕ) (stood : Stood) (before : Seen) (link : Option (List LinkCall)) (clock : Option (List ClockCall)) (words capture out out' : Option (List ℕ)) (link_faults : ℕ) (fs fs' : Faults) (given : Given) (taken : List Event) (ending : Ending) (need : Need) (why : Why) (end : LifeEnd)
-    → missing_in ending ≡ [] → cut_record ending ≡ []
+    → missing_in ending ≡ [] → cut_record ending ≡ [] → EndsAtLast ending given.link
     → Lived conf turns stood before (living others link clock words capture out link_faults fs) given taken Whole need end
     → Lived conf turns stood before (living others link clock words capture out' link_faults fs') given taken ending need (with_why why end)
-lived_as others conf turns stood before link clock words capture out out' link_faults fs fs' given taken ending need why end missing cut lived = record {
+lived_as others conf turns stood before link clock words capture out out' link_faults fs fs' given taken ending need why end missing cut last lived = record {
   weaves = rw missing lived.weaves;
   grows = lived.grows;
+  last_call = last;
   link = lived.link;
   requests = lived.requests;
   clock = lived.clock;
@@ -779,22 +798,22 @@ module _ (others : Seen) (conf : Conf) (turns : ℕ) (entry exit : DiskTold) (be
   closes Done (added, none_failed) =
       let text = printed_text ++ joined (closing_lines end) in
       lives_made conf turns entry exit before (living others link clock words capture out' link_faults (faults cf ef df kf of')) stood given taken Whole need (with_why Done end) text stood_for
-      (lived_as others conf turns stood before link clock words capture out out' link_faults (faults cf ef df kf of) (faults cf ef df kf of') given taken Whole need Done end refl refl lived)
+      (lived_as others conf turns stood before link clock words capture out out' link_faults (faults cf ef df kf of) (faults cf ef df kf of') given taken Whole need Done end refl refl tt lived)
       (ap (λ (l : List ℕ). l ++ joined (closing_lines end)) is_report)
       (added_more before.written out out' printed_text (joined (closing_lines end)) wrote added)
       (tt, ap (λ (n : ℕ). faults cf ef df kf n) none_failed ∙ same)
-      (λ is. well) (λ is now only. absurd (let bad : ⊥ = cc is in bad)) tt (λ any. loads) still marks (λ some. within) calls (inl blocks) (within_blocks Done Whole need (life_at (told conf (reverse taken))) stood.mark entry exit most) unused (λ any image left. (loaded image left, inl (low image left))) (λ is. reserved)
+      (λ is. well) (λ is now only. absurd (let bad : ⊥ = cc is in bad)) tt (λ any. loads) still marks (λ is. absurd (let bad : ⊥ = cc is in bad)) (λ some. within) calls (inl blocks) (within_blocks Done Whole need (life_at (told conf (reverse taken))) stood.mark entry exit most) unused (λ any image left. (loaded image left, inl (low image left))) (λ is. reserved)
   closes SinkFault (first, rest, line, front, are, added, fails) =
       let cut = joined first ++ take front line in
       let text = printed_text ++ cut in
       let ending = NoLine (Print line) front in
       let Failed : Faults → Type 0 = λ (f : Faults). Fails f.out of' × (faults cf ef df kf of' ≡ record f { out = of' }) in
       lives_made conf turns entry exit before (living others link clock words capture out' link_faults (faults cf ef df kf of')) stood given taken ending need (with_why SinkFault end) text stood_for
-      (lived_as others conf turns stood before link clock words capture out out' link_faults (faults cf ef df kf of) (faults cf ef df kf of') given taken ending need SinkFault end refl refl lived)
+      (lived_as others conf turns stood before link clock words capture out out' link_faults (faults cf ef df kf of) (faults cf ef df kf of') given taken ending need SinkFault end refl refl tt lived)
       (first, rest, well, are, ap (λ (l : List ℕ). l ++ cut) is_report ∙ sym (append_assoc (report_of conf (reverse taken)) (joined first) (take front line)))
       (added_more before.written out out' printed_text cut wrote added)
       (subst IsOver (sym well) tt, subst Failed same (fails, refl))
-      (λ is. well) (λ is now only. life_only lived.weaves (ap (λ (l : List Event). taken ++ l) refl ∙ only) well) tt (λ any. loads) still marks (λ some. within) calls (inl blocks) (within_blocks SinkFault ending need (life_at (told conf (reverse taken))) stood.mark entry exit most) unused (λ any image left. (loaded image left, inl (low image left))) (λ is. reserved)
+      (λ is. well) (λ is now only. life_only lived.weaves (ap (λ (l : List Event). taken ++ l) refl ∙ only) well) tt (λ any. loads) still marks (λ is. absurd (let bad : ⊥ = cc is in bad)) (λ some. within) calls (inl blocks) (within_blocks SinkFault ending need (life_at (told conf (reverse taken))) stood.mark entry exit most) unused (λ any image left. (loaded image left, inl (low image left))) (λ is. reserved)
   closes DiskFault never = absurd never
   closes BadVersion never = absurd never
   closes StampsSpent never = absurd never
@@ -857,17 +876,17 @@ start_weaves (life none) = life none
 start_weaves (life (acts tried are none)) = life (acts tried are none)
 
 -- the events are none, or the Life alone
-abbrev AtStart : ℕ → List Event → Type 0
+abbrev pub AtStart : ℕ → List Event → Type 0
 AtStart mark es = (es ≡ []) ⊎ ((now : ℤ) × (es ≡ Life now mark ∷ []))
 
-at_start : {conf : Conf} {stood : Stood} {history : History} {cs : List ClockCall} {ws : List ℕ} {ls : List LinkCall} {es : List Event} {need : Need}
+pub at_start : {conf : Conf} {stood : Stood} {history : History} {cs : List ClockCall} {ws : List ℕ} {ls : List LinkCall} {es : List Event} {need : Need}
     → Weaves conf (Start stood (Calls [])) history cs ws ls es need → AtStart stood.mark es
 at_start none = inl refl
 at_start (life {now = now} none) = inr (now, refl)
 at_start (life {now = now} (acts tried are none)) = inr (now, refl)
 
 -- before the Life
-start_none : {conf : Conf} {stood : Stood} {history : History} {cs : List ClockCall} {ws : List ℕ} {ls : List LinkCall} {es : List Event} {need : Need}
+pub start_none : {conf : Conf} {stood : Stood} {history : History} {cs : List ClockCall} {ws : List ℕ} {ls : List LinkCall} {es : List Event} {need : Need}
     → Weaves conf (Start stood (Calls [])) history cs ws ls es need → (behind_act need ≡ Calls []) ⊎ (es ≡ [])
 start_none none = inr refl
 start_none (life none) = inl refl
@@ -966,7 +985,7 @@ start_ends turns mark ClockFault deeds ending taken need a b of takes at ends = 
 start_ends turns mark EntropyFault deeds ending taken need a b of takes at ends = absurd of
 start_ends turns mark SinkFault deeds ending taken need a b of takes at ends = (start_stops turns mark deeds ending taken need a b takes at ends.0 ends.1, ends.1)
 
-never_done : (why : Why) → IsOfStart why → why ≢ Done
+pub never_done : (why : Why) → IsOfStart why → why ≢ Done
 never_done Done of is = of
 never_done DiskFault of is = let bad : ⊥ = cc in bad
 never_done BadVersion of is = let bad : ⊥ = cc in bad
@@ -988,12 +1007,13 @@ start_runs conf turns stood before now kept kept' end why of r = record {
   takes = r.takes;
   grows = r.grows;
   tallies = r.tallies;
+  last_call = r.last_call;
   ends = start_ends turns stood.mark why r.deeds r.ending r.taken r.need (faults_of before) (faults_of now) of r.takes (at_start r.weaves) r.ends;
   well = λ is. absurd (never_done why of is);
   reserved = r.reserved;
 }
 
-taken_start : (mark : ℕ) (taken missing : List Event) → AtStart mark (taken ++ missing) → AtStart mark taken
+pub taken_start : (mark : ℕ) (taken missing : List Event) → AtStart mark (taken ++ missing) → AtStart mark taken
 taken_start mark [] missing at = inl refl
 taken_start mark (t ∷ ts) missing (inl is) = absurd (let no : t ∷ (ts ++ missing) ≡ [] = is in let bad : ⊥ = cc in bad)
 taken_start mark (t ∷ []) missing (inr (now, is)) =
@@ -1004,13 +1024,13 @@ taken_start mark (t ∷ u ∷ ts) missing (inr (now, is)) =
     absurd (let no : t ∷ u ∷ (ts ++ missing) ≡ Life now mark ∷ [] = is in let bad : ⊥ = cc in bad)
 
 -- nothing is sent up to the Life
-none_sent : (conf : Conf) (mark : ℕ) (taken : List Event) → AtStart mark taken → all_sent (told conf (reverse taken)) ≡ []
+pub none_sent : (conf : Conf) (mark : ℕ) (taken : List Event) → AtStart mark taken → all_sent (told conf (reverse taken)) ≡ []
 unfolding told
 none_sent conf mark taken (inl is) = rw is refl
 none_sent conf mark taken (inr (now, is)) = rw is refl
 
 -- nothing is reserved up to the Life, whose mark is a number of 32 bits
-start_within : (conf : Conf) (mark : ℕ) (taken : List Event) → AtStart mark taken → AllByRecursion EventFits taken → taken ≢ []
+pub start_within : (conf : Conf) (mark : ℕ) (taken : List Event) → AtStart mark taken → AllByRecursion EventFits taken → taken ≢ []
     → mark + 64 * blocks_of (life_at (told conf (reverse taken))) < 2 ^ 32
 unfolding told
 start_within conf mark taken (inl is) fit some = absurd (some is)
@@ -1040,7 +1060,7 @@ before_life : (deeds : List Deed) (ending : Ending) (need : Need) (taken : List 
 before_life deeds ending need taken takes whole needs (inl is) = absurd (disk_not_call need needs is)
 before_life deeds ending need taken takes whole needs (inr is) = sym (whole_given deeds ending taken whole takes) ∙ is
 
-kept_at_start : (why : Why) (conf : Conf) (stood : Stood) (entry exit : DiskTold) (before now : Seen) (deeds : List Deed) (ending : Ending) (need : Need) (taken : List Event) (told_before : List Told) → IsOfStart why
+pub kept_at_start : (why : Why) (conf : Conf) (stood : Stood) (entry exit : DiskTold) (before now : Seen) (deeds : List Deed) (ending : Ending) (need : Need) (taken : List Event) (told_before : List Told) → IsOfStart why
     → all_done deeds ending ≡ map Take taken → (behind_act need ≡ Calls []) ⊎ (events_given deeds ending ≡ []) → LifeEndsBy why ending need (faults_of before) (faults_of now)
     → (why ≡ BadVersion → IfSome entry.content HasOtherVersion) → (why ≡ BadVersion → IsLeft entry exit) → KeptBy why stood taken told_before entry exit
 kept_at_start Done conf stood entry exit before now deeds ending need taken told_before of takes first ends version left = tt
@@ -1054,7 +1074,7 @@ kept_at_start EntropyFault conf stood entry exit before now deeds ending need ta
 kept_at_start SinkFault conf stood entry exit before now deeds ending need taken told_before of takes first ends version left = tt
 
 -- what ended at the disk took no event
-begun_not : (why : Why) (before now : Seen) (deeds : List Deed) (ending : Ending) (need : Need) (taken : List Event) → IsOfStart why
+pub begun_not : (why : Why) (before now : Seen) (deeds : List Deed) (ending : Ending) (need : Need) (taken : List Event) → IsOfStart why
     → all_done deeds ending ≡ map Take taken → (behind_act need ≡ Calls []) ⊎ (events_given deeds ending ≡ []) → LifeEndsBy why ending need (faults_of before) (faults_of now)
     → taken ≢ [] → (why ≢ BadVersion) × (why ≢ DiskFault)
 begun_not Done before now deeds ending need taken of takes first ends some = absurd of
@@ -1066,12 +1086,12 @@ begun_not EntropyFault before now deeds ending need taken of takes first ends so
 begun_not SinkFault before now deeds ending need taken of takes first ends some = (λ is. cc is, λ is. cc is)
 
 -- a load doesn't refuse the disk of a run that took its Life, or that the disk didn't end
-loadable_of : {Refusals Taken Loads : Type 0} → (Taken → Refusals) → (Refusals → Loads) → Taken ⊎ Refusals → Loads
+pub loadable_of : {Refusals Taken Loads : Type 0} → (Taken → Refusals) → (Refusals → Loads) → Taken ⊎ Refusals → Loads
 loadable_of f loads (inl some) = loads (f some)
 loadable_of f loads (inr neither) = loads neither
 
 -- an image of a disk that was loaded stands for the mark of the Life
-from_mark : (entry exit : DiskTold) (stood : Stood) (image : List ℕ) (blocks : ℕ) → IfSome entry.content (λ c. stood.mark ≡ mark_of_image c)
+pub from_mark : (entry exit : DiskTold) (stood : Stood) (image : List ℕ) (blocks : ℕ) → IfSome entry.content (λ c. stood.mark ≡ mark_of_image c)
     → IsLoadable image × IsSomeAnd entry.content (λ c. mark_of_image image ≡ mark_of_image c) → IsLoadable image × (mark_of_image image ≤ stood.mark + 64 * blocks)
 from_mark entry exit stood image blocks stood_for from = (from.0, by_content entry.content stood_for from.1)
   where
@@ -1083,10 +1103,10 @@ from_mark entry exit stood image blocks stood_for from = (from.0, by_content ent
 pub lives_never : (conf : Conf) (turns : ℕ) (entry exit : DiskTold) (before now : Seen) (why : Why) → IsOfStart why → HasStopped conf (Calls []) entry before now why
     → (why ≡ BadVersion → IfSome entry.content HasOtherVersion) → (why ≡ BadVersion → IsLeft entry exit) → (why ≢ BadVersion → why ≢ DiskFault → IfSome entry.content IsLoadable)
     → exit.time ≤ entry.time + 4 → KeepsMarks entry exit → KeepsLoadable entry exit → LeavesOnly entry exit (StandsAsBefore entry) → LeavesOnly entry exit (KeepsUnused entry)
-    → (why ≢ BadVersion → why ≢ DiskFault → IsLoadedFrom entry exit)
+    → (why ≢ BadVersion → why ≢ DiskFault → IsLoadedFrom entry exit) → (why ≡ DiskFault → StopCovers entry exit 0)
     → Lives conf turns entry exit before now (ended why)
 unfolding start_runs
-lives_never conf turns entry exit before now why of stopped version left loads calls least still stands unused from =
+lives_never conf turns entry exit before now why of stopped version left loads calls least still stands unused from stops =
     let stood = stopped.stood in
     let r = stopped.runs in
     let all = start_runs conf turns stood before now stood.mark stood.mark (ended Done) why of r in
@@ -1104,6 +1124,7 @@ lives_never conf turns entry exit before now why of stopped version left loads c
     (loadable_of (begun_not why before now r.deeds r.ending r.need r.taken of r.takes (start_none r.weaves) r.ends) (λ neither. loads neither.0 neither.1))
     still
     (record { above = subst P (sym sent) tt; covered = λ image left. subst (Q image) (sym sent) tt; least = least })
+    (λ is. record { each = λ room image left. (subst (Q image) (sym sent) tt, ((stops is).each room image left).1) })
     (start_within conf stood.mark all.taken (taken_start stood.mark all.taken (missing_in all.ending) at) lived.fits)
     (omega (arith, calls)) (inl (omega (arith, calls))) (weaker stands (λ image was. inl was)) unused
     (loadable_of (begun_not why before now r.deeds r.ending r.need r.taken of r.takes (start_none r.weaves) r.ends)

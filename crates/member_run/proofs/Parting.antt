@@ -1,30 +1,38 @@
 -- Parts of a run that take one event, and parts that end before it.
-use Rattle.std.proofs.Common.{◌≡◌, ◌≢◌, ℕ, List, [], ◌∷◌, ◌++◌, map, flat_map, refl, sym, ◌∙◌, ap, subst}
+use Rattle.std.proofs.Common.{◌≡◌, ◌≢◌, ◌<◌, ℕ, ℤ, Bool, true, false, List, [], ◌∷◌, ◌++◌, length, map, flat_map, if◌then◌else◌, refl, sym, ◌∙◌, ap, subst, arith}
+use Rattle.std.specs.Prelude.{⊤}
 use Rattle.std.proofs.lemmas.Grind.{flat_map-append}
 use Rattle.std.proofs.lemmas.List.{append-nil}
 use Rattle.edge_traits.specs.declared.link.Tried.{Tried}
 use Rattle.edge_traits.specs.Clock.{ClockCall, Correct}
-use Rattle.edge_traits.specs.Link.{LinkCall, Send}
+use Rattle.edge_traits.specs.declared.datagram.Addr.{Addr}
+use Rattle.edge_traits.specs.declared.link.Receipt.TheVariants.{Got}
+use Rattle.edge_traits.specs.Link.{LinkCall, Receive, Send}
 use Rattle.capture_fmt.specs.declared.event.Event.{Event}
+use Rattle.capture_fmt.specs.declared.event.Event.TheVariants.{Tick, Resync, Arrive}
 use Rattle.time_machine.specs.declared.conf.Conf.{Conf}
 use Rattle.time_machine.specs.Events.{History}
 use Rattle.time_machine.specs.Growing.{Grows}
 use Rattle.time_machine.specs.declared.outcome.Outcome.{Outcome}
-use Rattle.time_machine.specs.Machine.{moves_by, outcome_at, posted_by, told}
+use Rattle.time_machine.specs.declared.outcome.Outcome.TheVariants.{Started, Idle, Sent, Moved, Refused}
+use Rattle.time_machine.specs.Machine.{is_due, moves_by, outcome_at, posted_by, told}
+use Rattle.time_machine.specs.Report.{line_of}
+use Rattle.time_machine.specs.Words.{words}
 use Rattle.sntp_core.specs.declared.member.Member.{Member}
 use Rattle.sntp_core.specs.Standing.{StandsForHistory, conf_of}
 use Rattle.run_deeds.specs.declared.life_end.LifeEnd.{LifeEnd}
 use Rattle.run_deeds.specs.declared.life_end.Why.{Why}
 use Rattle.run_deeds.specs.declared.life_end.Why.TheVariants.{Done, DiskFault, BadVersion, StampsSpent, ClockFault, EntropyFault, SinkFault}
-use Rattle.run_deeds.specs.Deeds.{Deed, Take, Print, Ending, Whole, NoRecord, NoLine, IsWhole, all_done, events_given, events_in, history_after}
+use Rattle.run_deeds.specs.Deeds.{Deed, Take, Print, Ending, Whole, NoRecord, NoLine, HasLine, IsWhole, all_done, events_given, events_in, history_after}
 use Rattle.edge_seen.specs.Seen.{Seen}
-use Rattle.run_deeds.specs.Devices.{Does, Faults, Given, IsBehind, IsToDo, LifeEndsBy, SinkFailed, StopsAt, faults_of}
+use Rattle.run_deeds.specs.Devices.{Does, EndsAtLast, Faults, Given, IsBehind, IsLastCall, IsLastSend, IsToDo, LifeEndsBy, SinkFailed, StopsAt, faults_of}
 use Rattle.run_deeds.specs.Marks.{Reserved}
 use Rattle.run_deeds.specs.Parts.{Part, Runs, Tallies}
 use Rattle.run_deeds.specs.Weaving.{Act, Need, Weaves, acts, followed_by, none, posted_of}
 use Rattle.run_deeds.proofs.Composing.{tallies_then}
 use Rattle.run_deeds.proofs.Deeding.{follows}
 use Rattle.run_deeds.proofs.Doing.{does_then, given_then}
+use Rattle.run_deeds.proofs.Orders.{arrive_posts}
 use Rattle.run_deeds.proofs.Stopping.{runs_stop}
 use Rattle.member_run.specs.Taking.{ActsBy, TakeEnds, Takes}
 use Rattle.member_run.proofs.Ordered.{ends_taken}
@@ -109,15 +117,90 @@ whole_need Whole outcome next whole = refl
 whole_need (NoRecord event front) outcome next whole = absurd whole
 whole_need (NoLine deed front) outcome next whole = refl
 
+-- ---- The last call of the link
+
+-- where an event has a line, the last one of these calls and of its own is its own
+abbrev pub LastBy : Conf → History → Event → List LinkCall → Type 0
+LastBy conf history event before =
+    (tried : List Tried) → map posted_of tried ≡ posted_by (outcome_at conf history event) → 0 < length (line_of (outcome_at conf history event))
+    → IsLastCall event (before ++ map Send tried)
+
+none_before : (before : List Event) (a b : Event) → before ++ a ∷ [] ≡ b ∷ [] → before ≡ []
+none_before [] a b is = refl
+none_before (x ∷ []) a b is = absurd (let no : x ∷ a ∷ [] ≡ b ∷ [] = is in let bad : ⊥ = cc in bad)
+none_before (x ∷ y ∷ rest) a b is = absurd (let no : x ∷ y ∷ (rest ++ a ∷ []) ≡ b ∷ [] = is in let bad : ⊥ = cc in bad)
+
+pub last_by : (conf : Conf) (history : History) (deeds : List Deed) (ending : Ending) (event : Event) (taken : List Event) (made : List ClockCall) (tried : List Tried) (before : List LinkCall)
+    → events_given deeds ending ≡ event ∷ [] → all_done deeds ending ≡ map Take taken → HasLine conf history deeds ending
+    → ActsBy ending (outcome_at conf history event) made tried → LastBy conf history event before → EndsAtLast ending (before ++ map Send tried)
+last_by conf history deeds Whole event taken made tried before events takes has did last = tt
+last_by conf history deeds (NoRecord other front) event taken made tried before events takes has did last = tt
+last_by conf history deeds (NoLine (Print line) front) event taken made tried before events takes has did last = tt
+last_by conf history deeds (NoLine (Take other) front) event taken made tried before events takes has did last =
+    let split : flat_map events_in deeds ++ other ∷ [] ≡ event ∷ [] = sym (flat_map-append events_in deeds (Take other ∷ [])) ∙ events in
+    let same : other ≡ event = last_one (flat_map events_in deeds) other event split in
+    let here : history_after history deeds ≡ history = follows history deeds ∙ ap (followed_by history) (none_before (flat_map events_in deeds) other event split) in
+    let at : 0 < length (line_of (outcome_at conf history other)) = subst (λ (h : History). 0 < length (line_of (outcome_at conf h other))) here has in
+    let some : 0 < length (line_of (outcome_at conf history event)) = subst (λ (e : Event). 0 < length (line_of (outcome_at conf history e))) same at in
+    subst (λ (e : Event). IsLastCall e (before ++ map Send tried)) (sym same) (last tried did.1 some)
+
+-- an arrival sends nothing
+none_tried : (tried : List Tried) → map posted_of tried ≡ [] → tried ≡ []
+none_tried [] is = refl
+none_tried (t ∷ tried) is = absurd (let bad : ⊥ = cc is in bad)
+
+pub last_arrival : (conf : Conf) (history : History) (now : ℤ) (from : Addr) (bytes : List ℕ) → LastBy conf history (Arrive now from bytes) (Receive (Got from bytes) ∷ [])
+last_arrival conf history now from bytes tried posted some =
+    let silent : tried ≡ [] = none_tried tried (posted ∙ arrive_posts conf history now from bytes) in
+    ([], ap (λ (ts : List Tried). Receive (Got from bytes) ∷ map Send ts) silent)
+
+-- what a Tick or a Resync leads to
+abbrev MaySend : Outcome → Type 0
+MaySend (Sent to count bytes) = ⊤
+MaySend Idle = ⊤
+MaySend (Started mark) = ⊥
+MaySend (Moved count offset how) = ⊥
+MaySend (Refused reason) = ⊥
+
+may_if : (due : Bool) (outcome : Outcome) → MaySend outcome → MaySend (if due then outcome else Idle)
+may_if true outcome may = may
+may_if false outcome may = tt
+
+last_sent : (outcome : Outcome) → MaySend outcome → (tried : List Tried) → map posted_of tried ≡ posted_by outcome → 0 < length (line_of outcome) → IsLastSend (map Send tried)
+last_sent (Sent to count bytes) may [] posted some = absurd (let bad : ⊥ = cc posted in bad)
+last_sent (Sent to count bytes) may (t ∷ []) posted some = ([], t, refl)
+last_sent (Sent to count bytes) may (t ∷ u ∷ ts) posted some = absurd (let bad : ⊥ = cc posted in bad)
+last_sent Idle may tried posted some = absurd (let no : 0 < 0 = some in omega (arith, no))
+last_sent (Started mark) may tried posted some = absurd may
+last_sent (Moved count offset how) may tried posted some = absurd may
+last_sent (Refused reason) may tried posted some = absurd may
+
+tick_sends : (conf : Conf) (history : History) (now : ℤ) (word : ℕ) → MaySend (outcome_at conf history (Tick now word))
+unfolding outcome_at
+tick_sends conf history now word = may_if (is_due (words conf (told conf history)) now) _ tt
+
+resync_sends : (conf : Conf) (history : History) (now : ℤ) (word flags : ℕ) → MaySend (outcome_at conf history (Resync now word flags))
+unfolding outcome_at
+resync_sends conf history now word flags = tt
+
+pub last_tick : (conf : Conf) (history : History) (now : ℤ) (word : ℕ) → LastBy conf history (Tick now word) []
+last_tick conf history now word tried posted some = last_sent (outcome_at conf history (Tick now word)) (tick_sends conf history now word) tried posted some
+
+pub last_resync : (conf : Conf) (history : History) (now : ℤ) (word flags : ℕ) → LastBy conf history (Resync now word flags) []
+last_resync conf history now word flags tried posted some =
+    last_sent (outcome_at conf history (Resync now word flags)) (resync_sends conf history now word flags) tried posted some
+
+-- ---- A part with its event
+
 -- After what was given, an event is taken, for which these calls of the clock were made. Its calls are woven behind.
 abbrev pub runs_takes : (conf : Conf) (from next : Need) (history : History) (event : Event) (given : Given) (read : List ClockCall) (before mid now : Seen) (member : Member) (kept kept' : ℕ) (old new : LifeEnd) (why : Why)
     → Does conf history given [] Whole before mid → Tallies conf history [] given.link old old → (faults_of mid) ≡ (faults_of before)
     → Takes conf history event read mid now member old new why
     → ((cs : List ClockCall) (ls : List LinkCall) (need : Need) → Weaves conf (Act (outcome_at conf history event) next) (event ∷ history) cs [] ls [] need
     → Weaves conf from history (given.clock ++ (read ++ cs)) (given.words ++ []) (given.link ++ ls) (event ∷ []) need)
-    → IsBehind event next → (why ≡ Done → Reserved kept (told conf history) → Reserved kept' (told conf (event ∷ history)))
+    → IsBehind event next → LastBy conf history event given.link → (why ≡ Done → Reserved kept (told conf history) → Reserved kept' (told conf (event ∷ history)))
     → Runs conf from next history before now kept kept' old new why
-runs_takes conf from next history event given read before mid now member kept kept' old new why did counted quiet takes weaves behind reserved =
+runs_takes conf from next history event given read before mid now member kept kept' old new why did counted quiet takes weaves behind last reserved =
     let outcome = outcome_at conf history event in
     let need = need_at takes.ending outcome next in
     record {
@@ -133,6 +216,7 @@ runs_takes conf from next history event given read before mid now member kept ke
       tallies = tallies_then conf history [] (all_done takes.deeds takes.ending) given.link (map Send takes.tried) old old new counted takes.tallies;
       ends = subst (λ (f : Faults). LifeEndsBy why takes.ending need f (faults_of now)) quiet (take_ends why takes.ending need (faults_of mid) (faults_of now) takes.ends
           (stops_behind takes.deeds takes.ending event takes.taken outcome next (faults_of mid) (faults_of now) takes.events takes.takes behind));
+      last_call = last_by conf history takes.deeds takes.ending event takes.taken takes.made takes.tried given.link takes.events takes.takes takes.does.has_line takes.acts last;
       well = λ is. whole_need takes.ending outcome next (take_whole why takes.ending (faults_of mid) (faults_of now) takes.ends is);
       reserved = λ is was.
           rw (whole_history history event takes.deeds takes.ending (take_whole why takes.ending (faults_of mid) (faults_of now) takes.ends is) takes.events) (reserved is was);
@@ -144,11 +228,11 @@ pub part_takes : (conf : Conf) (from next : Need) (history : History) (event : E
     → Takes conf history event read mid now member old new why
     → ((cs : List ClockCall) (ls : List LinkCall) (need : Need) → Weaves conf (Act (outcome_at conf history event) next) (event ∷ history) cs [] ls [] need
     → Weaves conf from history (given.clock ++ (read ++ cs)) (given.words ++ []) (given.link ++ ls) (event ∷ []) need)
-    → IsBehind event next → (Reserved kept (told conf history) → Reserved kept' (told conf (event ∷ history)))
+    → IsBehind event next → LastBy conf history event given.link → (Reserved kept (told conf history) → Reserved kept' (told conf (event ∷ history)))
     → Part conf from next history before now member kept kept' old new why
-part_takes conf from next history event given read before mid now member kept kept' old new why did counted quiet takes weaves behind reserved =
+part_takes conf from next history event given read before mid now member kept kept' old new why did counted quiet takes weaves behind last reserved =
     record {
-      runs = runs_takes conf from next history event given read before mid now member kept kept' old new why did counted quiet takes weaves behind (λ is. reserved);
+      runs = runs_takes conf from next history event given read before mid now member kept kept' old new why did counted quiet takes weaves behind last (λ is. reserved);
       is_set = takes.is_set;
       stands = takes.stands;
     }
@@ -183,6 +267,7 @@ part_short conf from mid next history before now member kept kept' old new why n
     grows = one.runs.grows;
     tallies = one.runs.tallies;
     ends = one.runs.ends;
+    last_call = one.runs.last_call;
     well = λ is. absurd (not is);
     reserved = one.runs.reserved;
   };

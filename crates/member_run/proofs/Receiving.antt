@@ -35,7 +35,7 @@ use Rattle.run_deeds.proofs.Doing.{does_read, does_receive, does_then}
 use Rattle.run_deeds.proofs.Stopping.{does_still}
 use Rattle.member_run.specs.declared.running.Running.{Running}
 use Rattle.member_run.specs.Taking.{IsTaken, TakeEnds, Takes, TakesAt, TakesTo}
-use Rattle.member_run.proofs.Parting.{part_stops, part_takes}
+use Rattle.member_run.proofs.Parting.{last_arrival, part_stops, part_takes}
 
 -- ---- The reading of an arrival
 
@@ -136,6 +136,7 @@ quiet_part others conf from next history member link link' clock words capture o
     grows = subst (λ (set : Conf). Grows set history) is_set stands.grows;
     tallies = record { sent = refl; moved = refl; refused = refl; quiet = refl; lost = refl; turns = refl; why = refl };
     ends = (tt, refl);
+    last_call = tt;
     well = λ is. refl;
     reserved = λ is was. was;
   };
@@ -162,6 +163,7 @@ lost_part others conf from next history member link link' clock words capture ou
     grows = subst (λ (set : Conf). Grows set history) is_set stands.grows;
     tallies = record { sent = refl; moved = refl; refused = refl; quiet = refl; lost = refl; turns = refl; why = refl };
     ends = (tt, refl);
+    last_call = tt;
     well = λ is. refl;
     reserved = λ is was. was;
   };
@@ -195,7 +197,7 @@ got_part others conf start need next history member from bytes link link' clock 
     let got = Receive (Got from bytes) ∷ [] in
     let counted : Tallies conf history [] got old old = record { sent = refl; moved = refl; refused = refl; quiet = refl; lost = refl; turns = refl; why = refl } in
     part_takes conf start next history (Arrive time from bytes) (record { clock = []; words = []; link = got }) (Read time ∷ []) a b after member kept kept old new why
-    (does_receive others conf history link link' clock words capture out lf lf' f (Got from bytes) gave counts) counted refl takes (weaves time) (behind time) (arrival_reserved conf history time from bytes kept)
+    (does_receive others conf history link link' clock words capture out lf lf' f (Got from bytes) gave counts) counted refl takes (weaves time) (behind time) (last_arrival conf history time from bytes) (arrival_reserved conf history time from bytes kept)
 
 -- what an arrival answers is what it led to, at the reading that it was taken at
 pub led_to : (result : Result Outcome Why) (old new : Running) (now : ℤ) (from : Addr) (bytes : List ℕ) (words : Option (List ℕ)) (entropy disk : ℕ) (link link' : Option (List LinkCall)) (clock clock' clock'' : Option (List ClockCall)) (capture capture' out out' : Option (List ℕ)) (lf lf' cf cf' cf'' kf kf' of of' : ℕ)

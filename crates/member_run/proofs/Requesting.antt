@@ -30,7 +30,7 @@ use Rattle.run_deeds.proofs.Doing.{does_draw, does_read, does_then}
 use Rattle.run_deeds.proofs.Stopping.{does_still, tallies_none}
 use Rattle.member_run.specs.Reserving.{BlamedBy, Reserves}
 use Rattle.member_run.specs.Taking.{Takes}
-use Rattle.member_run.proofs.Parting.{part_stops, part_takes}
+use Rattle.member_run.proofs.Parting.{LastBy, part_stops, part_takes}
 
 -- no count could be reserved
 pub no_count : (others : Seen) (conf : Conf) (from next : Need) (history : History) (member : Member) (link : Option (List LinkCall)) (clock : Option (List ClockCall)) (words capture out : Option (List ℕ))
@@ -82,10 +82,10 @@ pub takes_drawn : (others : Seen) (conf : Conf) (from next : Need) (history : Hi
     → GaveReadings clock clock' (now ∷ []) → cf' ≡ cf → Added words words' (word ∷ []) → ef' ≡ ef → df' ≡ df
     → Takes conf history event [] (living others link clock' words' capture out lf (faults cf' ef' df' kf of)) after member old new why
     → ((cs : List ClockCall) (ls : List LinkCall) (need : Need) → Weaves conf (Act (outcome_at conf history event) next) (event ∷ history) cs [] ls [] need
-    → Weaves conf from history (Read now ∷ cs) (word ∷ []) ls (event ∷ []) need) → IsBehind event next
+    → Weaves conf from history (Read now ∷ cs) (word ∷ []) ls (event ∷ []) need) → IsBehind event next → LastBy conf history event []
     → (Reserved kept (told conf history) → Reserved kept' (told conf (event ∷ history)))
     → Part conf from next history (living others link clock words capture out lf (faults cf ef df kf of)) after member kept kept' old new why
-takes_drawn others conf from next history event member link clock clock' words words' capture out lf cf cf' ef ef' df df' kf of after kept kept' old new why now word gave read gave_word drew disk takes weaves behind reserved =
+takes_drawn others conf from next history event member link clock clock' words words' capture out lf cf cf' ef ef' df df' kf of after kept kept' old new why now word gave read gave_word drew disk takes weaves behind last reserved =
     let begin = faults cf ef df kf of in
     let quiet = faults cf' ef' df' kf of in
     let a = living others link clock words capture out lf begin in
@@ -95,7 +95,7 @@ takes_drawn others conf from next history event member link clock clock' words w
     (does_then conf history (record { clock = Read now ∷ []; words = []; link = [] }) (record { clock = []; words = word ∷ []; link = [] }) [] [] Whole a b c
     (does_read others conf history link clock clock' words capture out lf begin begin now gave)
     (does_draw others conf history link clock' words words' capture out lf begin quiet word gave_word))
-    (tallies_none conf history old) (λ i. faults (read i) (drew i) (disk i) kf of) takes weaves behind reserved
+    (tallies_none conf history old) (λ i. faults (read i) (drew i) (disk i) kf of) takes weaves behind last reserved
 
 -- behind the Resync of a call comes its round, or another call
 resync_behind : (now : ℤ) (word flags : ℕ) (left : List SyncCall) (b : Bool) → IsBehind (Resync now word flags) (if b then Calls left else Round 16 left)

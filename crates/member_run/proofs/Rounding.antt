@@ -37,7 +37,7 @@ use Rattle.member_run.specs.Running.{IsBegun, SendsNone, kept_of, member_of, tot
 use Rattle.member_run.specs.Taking.{Takes, TakesAt, TakesTo}
 use Rattle.member_run.proofs.Ordered.{followed-reverse, history_of}
 use Rattle.member_run.proofs.Turning.{one_left, runs_none, taken_history, whole_given}
-use Rattle.member_run.proofs.Parting.{part_short, part_stops, runs_takes}
+use Rattle.member_run.proofs.Parting.{last_arrival, part_short, part_stops, runs_takes}
 use Rattle.member_run.proofs.Receiving.{arrival_reserved, lost_part, quiet_part}
 
 -- ---- The result
@@ -206,7 +206,7 @@ got_runs others conf k history member from bytes link link' clock words capture 
     runs_takes conf (Round (suc k) []) next history (Arrive time from bytes) (record { clock = []; words = []; link = got }) (Read time ∷ []) a b after member kept kept old new why
     (does_receive others conf history link link' clock words capture out lf lf' f (Got from bytes) gave counts) (got_tallies conf history from bytes old) refl takes
     (λ cs ls need s. round_gets (round_arrives (subst (λ (n : Need). Weaves conf (Act outcome n) (Arrive time from bytes ∷ history) cs [] ls [] need) (sym behind) s)))
-    (subst B behind (arrival_behind time from bytes k outcome)) (λ is. arrival_reserved conf history time from bytes kept)
+    (subst B behind (arrival_behind time from bytes k outcome)) (last_arrival conf history time from bytes) (λ is. arrival_reserved conf history time from bytes kept)
 
 pub got_step : (others : Seen) (conf : Conf) (k : ℕ) (history : History) (member : Member) (from : Addr) (bytes : List ℕ) (link link' : Option (List LinkCall)) (clock : Option (List ClockCall)) (words capture out : Option (List ℕ)) (lf lf' : ℕ) (f : Faults) (after : Seen) (kept : ℕ) (old new : LifeEnd) (outcome : Outcome) (next : Need)
     → Grew link link' (Receive (Got from bytes) ∷ []) → ReceiptCounts (Got from bytes) lf lf'

@@ -112,7 +112,7 @@ life_cut others set conf next entry now mark link clock clock' words capture out
       runs = runs_takes conf (Start stood next) next [] (Life now mark) (record { clock = Read now ∷ []; words = []; link = [] }) []
           (living others link clock words capture out lf (faults cf ef df kf of)) (living others link clock' words capture out lf (faults cf' ef df' kf of)) after member mark mark (ended Done) (ended Done) why
           (does_read others conf [] link clock clock' words capture out lf (faults cf ef df kf of) (faults cf' ef df' kf of) now gave)
-          (tallies_none conf [] (ended Done)) (λ i. faults (read i) ef (disk i) kf of) same (λ cs ls need s. life s) tt (λ done. absurd (no_done done));
+          (tallies_none conf [] (ended Done)) (λ i. faults (read i) ef (disk i) kf of) same (λ cs ls need s. life s) tt (λ tried posted some. tt) (λ done. absurd (no_done done));
     }
 
 -- it was taken
@@ -134,7 +134,7 @@ life_taken others set conf next entry now mark link clock clock' words capture o
         runs = runs_takes conf (Start stood next) next [] (Life now mark) (record { clock = Read now ∷ []; words = []; link = [] }) []
             (living others link clock words capture out lf (faults cf ef df kf of)) (living others link clock' words capture out lf (faults cf' ef df' kf of)) after (member_of running) mark mark (ended Done) (totals_of running) Done
             (does_read others conf [] link clock clock' words capture out lf (faults cf ef df kf of) (faults cf' ef df' kf of) now gave)
-            (tallies_none conf [] (ended Done)) (λ i. faults (read i) ef (disk i) kf of) takes (λ cs ls need s. life s) tt (λ is was. life_reserved conf now mark);
+            (tallies_none conf [] (ended Done)) (λ i. faults (read i) ef (disk i) kf of) takes (λ cs ls need s. life s) tt (λ tried posted some. tt) (λ is was. life_reserved conf now mark);
         is_set = takes.is_set;
         stands = takes.stands;
       };

@@ -402,6 +402,7 @@ raised_runs conf left history a b kept kept' old new why r = record {
   grows = r.grows;
   tallies = r.tallies;
   ends = raised_ends left why r.deeds r.ending r.taken r.need (faults_of a) (faults_of b) r.takes r.ends;
+  last_call = r.last_call;
   well = λ is. ap (raised left) (r.well is);
   reserved = r.reserved;
 }
@@ -421,6 +422,7 @@ runs_short conf from next next' history a b kept kept' old new why not r = recor
   grows = r.grows;
   tallies = r.tallies;
   ends = r.ends;
+  last_call = r.last_call;
   well = λ is. absurd (not is);
   reserved = r.reserved;
 }
@@ -440,6 +442,7 @@ runs_none conf need history now kept end grows = record {
   grows = grows;
   tallies = tallies_none conf history end;
   ends = (tt, refl);
+  last_call = tt;
   well = λ is. refl;
   reserved = λ is was. was;
 }

@@ -95,7 +95,7 @@ impl Running {
     ghost use Rattle.sntp_core.specs.Standing.{StandsForHistory};
     ghost use Rattle.run_deeds.specs.declared.life_end.Why.{Why};
     ghost use Rattle.run_deeds.specs.Devices.{faults, living};
-    ghost use Rattle.run_deeds.specs.Marks.{Covers, KeepsLoadable};
+    ghost use Rattle.run_deeds.specs.Marks.{Covers, KeepsLoadable, StopCovers};
     ghost use Rattle.run_deeds.specs.Parts.{why_of};
     ghost use Rattle.member_run.specs.Running.{IsGoing, greatest_of, member_of};
     ghost use Rattle.member_run.specs.Turning.{TakesTurns};
@@ -128,6 +128,8 @@ impl Running {
         ensures still_loads { KeepsLoadable (D.told disk.old) (D.told disk.new) }
         ensures unused { LeavesOnly (D.told disk.old) (D.told disk.new) (KeepsUnused (D.told disk.old)) }
         ensures covers { Covers (D.told disk.new) (greatest_of self.new) }
+        ensures stopped { IsErrOf result Why.DiskFault
+            → StopCovers (D.told disk.old) (D.told disk.new) (greatest_of self.new) }
         ensures never { (IsErrOf result Why.Done → ⊥) × (IsErrOf result Why.BadVersion → ⊥) }
     {
         for _ in 0..turns {

@@ -1,7 +1,7 @@
 //! Counts are reserved before they are sent.
 ghost use Rattle.std.specs.Prelude.{◌≡◌, ◌+◌, ◌≤◌, IfOk, IfSome, IsErrOf, OnOk};
 ghost use Rattle.stamp_keep.specs.Image.{mark_of_image};
-ghost use Rattle.slot_disk.specs.Calls.{LeavesOnly};
+ghost use Rattle.slot_disk.specs.Calls.{LeavesOnly, WasCalled};
 ghost use Rattle.stamp_keep.specs.Keep.{Fits, IsLeft, KeepsMarks, KeepsUnused, StandsAsBefore};
 ghost use Rattle.stamp_keep.specs.Keep.{kept_mark};
 ghost use Rattle.run_deeds.specs.declared.life_end.Why.{Why};
@@ -29,6 +29,7 @@ pub(crate) fn load<D: Disk>(disk: &mut D) -> Result<Keeper, Why>
     ensures any_moment { LeavesOnly (D.told disk.old) (D.told disk.new) (StandsAsBefore (D.told disk.old)) }
     ensures unused { LeavesOnly (D.told disk.old) (D.told disk.new) (KeepsUnused (D.told disk.old)) }
     ensures calls { (D.told disk.new).time ≤ (D.told disk.old).time + 4 }
+    ensures called { WasCalled (D.told disk.old) (D.told disk.new) }
     ensures cause { DiskBlamed result (D.faults disk.old) (D.faults disk.new) }
     ensures never_spent { IsErrOf result Why.StampsSpent → ⊥ }
 {
@@ -39,12 +40,13 @@ pub(crate) fn load<D: Disk>(disk: &mut D) -> Result<Keeper, Why>
 }
 
 impl Running {
-    ghost use Rattle.std.specs.Prelude.{◌≡◌, ◌↔◌, ◌<◌, ◌^◌, IsErrOf, OnErr, OnOk};
+    ghost use Rattle.std.specs.Prelude.{◌≡◌, ◌↔◌, ◌<◌, ◌≤◌, ◌^◌, IsErrOf, OnErr, OnOk};
+    ghost use Rattle.stamp_keep.specs.Image.{mark_of_image};
     ghost use Rattle.slot_disk.specs.Calls.{LeavesOnly};
     ghost use Rattle.stamp_keep.specs.Keep.{KeepsMarks, KeepsUnused};
     ghost use Rattle.run_deeds.specs.declared.life_end.Why.{Why};
-    ghost use Rattle.run_deeds.specs.Marks.{KeepsLoadable};
-    ghost use Rattle.member_run.specs.Running.{CallsWhereDue, IsGoing, IsUsedUp, RisesWhereDue, kept_of};
+    ghost use Rattle.run_deeds.specs.Marks.{KeepsLoadable, StopCovers};
+    ghost use Rattle.member_run.specs.Running.{CallsWhereDue, IsGoing, IsUsedUp, RisesWhereDue, greatest_of, kept_of};
     ghost use Rattle.member_run.specs.Reserving.{DiskBlamed, Reserves};
 
     /// Reserves a block of counts, where none is left.
@@ -63,6 +65,12 @@ impl Running {
         ensures most { RisesWhereDue self.old (D.told disk.old) (D.told disk.new) }
         ensures unused { LeavesOnly (D.told disk.old) (D.told disk.new) (KeepsUnused (D.told disk.old)) }
         ensures calls { CallsWhereDue self.old (D.told disk.old) (D.told disk.new) }
+
+        // At each moment each image stands for at least the mark up to which counts were reserved before.
+        ensures any_moment { LeavesOnly (D.told disk.old) (D.told disk.new) (λ image. kept_of self.old ≤ mark_of_image image) }
+        ensures stopped { IsErrOf result Why.DiskFault
+            → StopCovers (D.told disk.old) (D.told disk.new) (greatest_of self.new) }
+
         ensures spent { IsErrOf result Why.StampsSpent
             ↔ (IsUsedUp self.old × (4294967231 < kept_of self.old)) }
         ensures spent_still { IsErrOf result Why.StampsSpent → disk.new ≡ disk.old }

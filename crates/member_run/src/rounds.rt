@@ -26,15 +26,16 @@ const NO_DATA: u32 = 1;
 const TOO_BIG: u32 = 3;
 
 impl Running {
-    ghost use Rattle.std.specs.Prelude.{◌↔◌, ◌<◌, ℕ, [], List, Option, IfErr, IsErrOf, OnOk};
+    ghost use Rattle.std.specs.Prelude.{◌↔◌, ◌<◌, ◌≤◌, ℕ, [], List, Option, IfErr, IsErrOf, OnOk};
     ghost use Rattle.edge_seen.specs.Seen.{Seen};
     ghost use Rattle.slot_disk.specs.Calls.{LeavesOnly};
+    ghost use Rattle.stamp_keep.specs.Image.{mark_of_image};
     ghost use Rattle.stamp_keep.specs.Keep.{KeepsMarks, KeepsUnused};
     ghost use Rattle.time_machine.specs.Events.{History};
     ghost use Rattle.sntp_core.specs.Standing.{StandsForHistory, conf_of};
     ghost use Rattle.run_deeds.specs.declared.life_end.Why.{Why};
     ghost use Rattle.run_deeds.specs.Devices.{faults, living};
-    ghost use Rattle.run_deeds.specs.Marks.{Covers, KeepsLoadable};
+    ghost use Rattle.run_deeds.specs.Marks.{Covers, KeepsLoadable, StopCovers};
     ghost use Rattle.run_deeds.specs.Parts.{why_of};
     ghost use Rattle.run_deeds.specs.Rounds.{Answers, RoundAnswers};
     ghost use Rattle.run_deeds.specs.Weaving.{behind_request, one_call};
@@ -82,6 +83,12 @@ impl Running {
         ensures unused { LeavesOnly (D.told disk.old) (D.told disk.new) (KeepsUnused (D.told disk.old)) }
         ensures still_loads { KeepsLoadable (D.told disk.old) (D.told disk.new) }
         ensures covers { Covers (D.told disk.new) (greatest_of self.new) }
+
+        // At each moment of the call, so between two calls of the disk too, each image stands for at least the mark up to
+        // which counts were reserved before. Where the disk failed, each covers all counts sent, just before that call too.
+        ensures any_moment { LeavesOnly (D.told disk.old) (D.told disk.new) (λ image. kept_of self.old ≤ mark_of_image image) }
+        ensures stopped { IsErrOf result Why.DiskFault
+            → StopCovers (D.told disk.old) (D.told disk.new) (greatest_of self.new) }
         ensures never { (IsErrOf result Why.Done → ⊥) × (IsErrOf result Why.BadVersion → ⊥) }
     {
         let mut devices = Devices {
@@ -130,6 +137,10 @@ impl Running {
             (KeepsUnused (D.told devices.old.disk.now)) }
         ensures still_loads { KeepsLoadable (D.told devices.old.disk.now) (D.told devices.new.disk.now) }
         ensures covers { Covers (D.told devices.new.disk.now) (greatest_of self.new) }
+        ensures any_moment { LeavesOnly (D.told devices.old.disk.now) (D.told devices.new.disk.now)
+            (λ image. kept_of self.old ≤ mark_of_image image) }
+        ensures stopped { IsErrOf result Why.DiskFault
+            → StopCovers (D.told devices.old.disk.now) (D.told devices.new.disk.now) (greatest_of self.new) }
         ensures never { (IsErrOf result Why.Done → ⊥) × (IsErrOf result Why.BadVersion → ⊥) }
     {
         self.ensure_count(devices.disk)?;

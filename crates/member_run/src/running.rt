@@ -29,6 +29,7 @@ impl Running {
     ghost use Rattle.edge_seen.specs.Seen.{Seen};
     ghost use Rattle.capture_fmt.specs.declared.event.Event.{Event};
     ghost use Rattle.slot_disk.specs.Calls.{LeavesOnly};
+    ghost use Rattle.stamp_keep.specs.Image.{mark_of_image};
     ghost use Rattle.stamp_keep.specs.Keep.{IsLeft, IsLoadable, KeepsMarks, KeepsUnused, StandsAsBefore};
     ghost use Rattle.stamp_keep.specs.Slots.{HasOtherVersion};
     ghost use Rattle.time_machine.specs.Events.{History};
@@ -37,7 +38,7 @@ impl Running {
     ghost use Rattle.run_deeds.specs.declared.life_end.Why.{Why};
     ghost use Rattle.run_deeds.specs.Counting.{ended};
     ghost use Rattle.run_deeds.specs.Devices.{faults, living};
-    ghost use Rattle.run_deeds.specs.Marks.{Covers, KeepsLoadable};
+    ghost use Rattle.run_deeds.specs.Marks.{Covers, KeepsLoadable, StopCovers};
     ghost use Rattle.run_deeds.specs.Parts.{why_of};
     ghost use Rattle.run_deeds.specs.Weaving.{Need, Turns, ReceiptNow};
     ghost use Rattle.member_run.specs.Running.{CallsWhereDue, IsBegun, IsGoing, IsOfReceipt};
@@ -87,6 +88,7 @@ impl Running {
         ensures unused { LeavesOnly (D.told disk.old) (D.told disk.new) (KeepsUnused (D.told disk.old)) }
         ensures still_loads { KeepsLoadable (D.told disk.old) (D.told disk.new) }
         ensures calls { (D.told disk.new).time ≤ (D.told disk.old).time + 4 }
+        ensures stopped { IsErrOf result Why.DiskFault → StopCovers (D.told disk.old) (D.told disk.new) 0 }
         ensures never { IfErr result IsOfStart }
     {
         let keeper = load(disk)?;
@@ -143,6 +145,12 @@ impl Running {
         ensures unused { LeavesOnly (D.told disk.old) (D.told disk.new) (KeepsUnused (D.told disk.old)) }
         ensures still_loads { KeepsLoadable (D.told disk.old) (D.told disk.new) }
         ensures covers { Covers (D.told disk.new) (greatest_of self.new) }
+
+        // At each moment of the call, so between two calls of the disk too, each image stands for at least the mark up to
+        // which counts were reserved before. Where the disk failed, each covers all counts sent, just before that call too.
+        ensures any_moment { LeavesOnly (D.told disk.old) (D.told disk.new) (λ image. kept_of self.old ≤ mark_of_image image) }
+        ensures stopped { IsErrOf result Why.DiskFault
+            → StopCovers (D.told disk.old) (D.told disk.new) (greatest_of self.new) }
         ensures never { (IsErrOf result Why.Done → ⊥) × (IsErrOf result Why.BadVersion → ⊥) }
     {
         let mut devices = Devices {
@@ -197,6 +205,10 @@ impl Running {
             (KeepsUnused (D.told devices.old.disk.now)) }
         ensures still_loads { KeepsLoadable (D.told devices.old.disk.now) (D.told devices.new.disk.now) }
         ensures covers { Covers (D.told devices.new.disk.now) (greatest_of self.new) }
+        ensures any_moment { LeavesOnly (D.told devices.old.disk.now) (D.told devices.new.disk.now)
+            (λ image. kept_of self.old ≤ mark_of_image image) }
+        ensures stopped { IsErrOf result Why.DiskFault
+            → StopCovers (D.told devices.old.disk.now) (D.told devices.new.disk.now) (greatest_of self.new) }
         ensures never { (IsErrOf result Why.Done → ⊥) × (IsErrOf result Why.BadVersion → ⊥) }
     {
         self.ensure_count(devices.disk)?;

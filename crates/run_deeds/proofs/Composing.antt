@@ -1,13 +1,15 @@
 -- Parts of a run, one after another.
-use Rattle.std.proofs.Common.{◌≡◌, ℕ, zero, suc, ◌+◌, List, ◌++◌, length, length-append, map, flat_map, refl, sym, ◌∙◌, ap, subst, arith}
+use Rattle.std.proofs.Common.{◌≡◌, ℕ, zero, suc, ◌+◌, List, [], ◌∷◌, ◌++◌, length, length-append, map, flat_map, refl, sym, ◌∙◌, ap, subst, append_assoc, arith}
 use Rattle.std.specs.List.{count_by}
 use Rattle.std.proofs.lemmas.Bool.Decides.{nat_tests}
 use Rattle.std.proofs.lemmas.Grind.{flat_map-append}
 use Rattle.std.proofs.lemmas.List.{map-append}
 use Rattle.std.proofs.lemmas.List.Sums.{sum_by-append}
-use Rattle.edge_traits.specs.Link.{LinkCall, receipts_among}
+use Rattle.edge_traits.specs.declared.link.Receipt.TheVariants.{Got}
+use Rattle.edge_traits.specs.Link.{LinkCall, Receive, Send, receipts_among}
 use Rattle.edge_traits.proofs.Links.{failed_calls-append, receipts_among-append}
 use Rattle.capture_fmt.specs.declared.event.Event.{Event}
+use Rattle.capture_fmt.specs.declared.event.Event.TheVariants.{Life, Tick, Resync, Arrive}
 use Rattle.time_machine.specs.declared.conf.Conf.{Conf}
 use Rattle.time_machine.specs.Events.{History}
 use Rattle.time_machine.specs.Machine.{told}
@@ -18,9 +20,9 @@ use Rattle.run_deeds.specs.declared.life_end.Why.{Why}
 use Rattle.run_deeds.specs.declared.life_end.Why.TheVariants.{Done}
 use Rattle.run_deeds.specs.Counting.{more}
 use Rattle.run_deeds.specs.Weaving.{Need, Weaves}
-use Rattle.run_deeds.specs.Deeds.{Deed, Take, Ending, Whole, NoRecord, NoLine, along, all_done, events_given, history_after, moves_in, posted_in, reasons_in, ticks_in}
+use Rattle.run_deeds.specs.Deeds.{Deed, Take, Print, Ending, Whole, NoRecord, NoLine, along, all_done, events_given, history_after, moves_in, posted_in, reasons_in, ticks_in}
 use Rattle.edge_seen.specs.Seen.{Seen}
-use Rattle.run_deeds.specs.Devices.{Does, Faults, Given, LifeEndsBy, faults_of}
+use Rattle.run_deeds.specs.Devices.{Does, EndsAtLast, Faults, Given, IsLastSend, LifeEndsBy, faults_of}
 use Rattle.run_deeds.specs.Marks.{Reserved}
 use Rattle.run_deeds.specs.Parts.{Part, Runs, Tallies, is_quiet}
 use Rattle.run_deeds.proofs.Deeding.{all_done-append, along-append, events_given-append, follows, history_after-append}
@@ -58,6 +60,23 @@ tallies_then conf history ds es xs ys old mid new first second = record {
   why = second.why ∙ first.why;
 }
 
+-- ---- The last call of the link
+
+last_send : (xs ys : List LinkCall) → IsLastSend ys → IsLastSend (xs ++ ys)
+last_send xs ys (earlier, tried, is) =
+    (xs ++ earlier, tried, ap (λ (l : List LinkCall). xs ++ l) is ∙ sym (append_assoc xs earlier (Send tried ∷ [])))
+
+-- it is the last one of earlier calls and these
+pub last_call-append : (ending : Ending) (xs ys : List LinkCall) → EndsAtLast ending ys → EndsAtLast ending (xs ++ ys)
+last_call-append Whole xs ys last = tt
+last_call-append (NoRecord event front) xs ys last = tt
+last_call-append (NoLine (Print line) front) xs ys last = tt
+last_call-append (NoLine (Take (Life now mark)) front) xs ys last = tt
+last_call-append (NoLine (Take (Tick now word)) front) xs ys last = last_send xs ys last
+last_call-append (NoLine (Take (Resync now word flags)) front) xs ys last = last_send xs ys last
+last_call-append (NoLine (Take (Arrive now from bytes)) front) xs ys (earlier, is) =
+    (xs ++ earlier, ap (λ (l : List LinkCall). xs ++ l) is ∙ sym (append_assoc xs earlier (Receive (Got from bytes) ∷ [])))
+
 -- A part that ends well, and another: the whole of both, whose history is that behind the second, and whose last
 -- deed is that one's. The first one's last deed is whole.
 joined_runs : (conf : Conf) (from mid next : Need) (history : History) (a b c : Seen) (k0 k1 k2 : ℕ) (old between new : LifeEnd) (why : Why)
@@ -91,6 +110,7 @@ joined_runs conf from mid next history a b c k0 k1 k2 old between new why given 
         grows = rw after two.grows;
         tallies = rw done (tallies_then conf history deeds (all_done two.deeds two.ending) given.link two.given.link old between new tallies two.tallies);
         ends = subst Ends ends.1 two.ends;
+        last_call = last_call-append two.ending given.link two.given.link two.last_call;
         well = two.well;
         reserved = λ is was. rw after (two.reserved is (reserved was));
       },

@@ -54,6 +54,7 @@ runs_stop conf from need next history given before now kept kept' end why not gr
   grows = grows;
   tallies = counted;
   ends = ends;
+  last_call = tt;
   well = λ is. absurd (not is);
   reserved = λ is. absurd (not is);
 }

@@ -1,10 +1,12 @@
 -- What the devices of a run tell, and what a part of a run was given and did.
-use Rattle.std.specs.Prelude.{◌≡◌, ℕ, zero, ◌<◌, List, [], ◌∷◌, map, Option, ⊤}
+use Rattle.std.specs.Prelude.{◌≡◌, ℕ, zero, ◌<◌, List, [], ◌∷◌, ◌++◌, map, Option, ⊤}
 use Rattle.std.specs.List.{AllByRecursion}
 use Rattle.base_specs.specs.Counts.{Fails, FailsTimes, Rose}
 use Rattle.base_specs.specs.Told.{Added, Grew}
 use Rattle.edge_traits.specs.Clock.{ClockCall, moves_among}
-use Rattle.edge_traits.specs.Link.{LinkCall, failed_calls, sends_among}
+use Rattle.edge_traits.specs.declared.link.Receipt.TheVariants.{Got}
+use Rattle.edge_traits.specs.declared.link.Tried.{Tried}
+use Rattle.edge_traits.specs.Link.{LinkCall, Receive, Send, failed_calls, sends_among}
 use Rattle.edge_seen.specs.Seen.{Seen}
 use Rattle.capture_fmt.specs.declared.event.Event.{Event}
 use Rattle.capture_fmt.specs.declared.event.Event.TheVariants.{Life, Tick, Resync, Arrive}
@@ -191,13 +193,29 @@ IsOver (Turns zero) = ⊤
 IsOver (Calls []) = ⊤
 IsOver _ = ⊥
 
--- Where a record could not be written, what its event led to was not done. Where a line could not, it was, and nothing was
--- asked for behind it but, in a round, a receipt. A line that is no event's comes when no turn and no call is left.
+-- Where a record could not be written, what its event led to was not done. Where a line could not, it was; `EndsAtLast` says
+-- that no call of the link came after it. A line that is no event's comes when no turn and no call is left.
 abbrev pub StopsAt : Ending → Need → Type 0
 StopsAt Whole need = ⊥
 StopsAt (NoRecord event front) need = IsToDo event need
 StopsAt (NoLine (Take event) front) need = IsBehind event need
 StopsAt (NoLine (Print line) front) need = IsOver need
+
+-- the last one of these calls tried a send
+abbrev pub IsLastSend : List LinkCall → Type 0
+IsLastSend calls = (earlier : List LinkCall) × (tried : Tried) × (calls ≡ earlier ++ Send tried ∷ [])
+
+-- The last one of these calls is the event's: its send, or the receipt that gave its datagram. Before a Life there is none.
+abbrev pub IsLastCall : Event → List LinkCall → Type 0
+IsLastCall (Life now mark) calls = ⊤
+IsLastCall (Tick now word) calls = IsLastSend calls
+IsLastCall (Resync now word flags) calls = IsLastSend calls
+IsLastCall (Arrive now from bytes) calls = (earlier : List LinkCall) × (calls ≡ earlier ++ Receive (Got from bytes) ∷ [])
+
+-- where the line of an event could not be written, no call of the link came after that event's
+abbrev pub EndsAtLast : Ending → List LinkCall → Type 0
+EndsAtLast (NoLine (Take event) front) calls = IsLastCall event calls
+EndsAtLast _ calls = ⊤
 
 -- What each answer says of the last deed, of what is needed next, and of the calls that failed: with a fault of a
 -- device that device failed once, at the call that was due, and with any other answer no call failed.

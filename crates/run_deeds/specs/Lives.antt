@@ -33,10 +33,10 @@ use Rattle.run_deeds.specs.declared.life_end.Why.TheVariants.{Done, DiskFault, B
 use Rattle.run_deeds.specs.ServiceWeaving.{service_weave}
 use Rattle.run_deeds.specs.Weaving.{Stood, Need, Start, Turns, Calls, Act, Weaves, clock_calls, posted_of, ticks_by, turn_calls, turn_requests, weave}
 use Rattle.run_deeds.specs.Deeds.{Ending, Whole, NoRecord, NoLine, Take, Print, missing_in, cut_record, reasons_by}
-use Rattle.run_deeds.specs.Devices.{Given, LifeEndsBy, IsBeforeRequest, faults_of}
+use Rattle.run_deeds.specs.Devices.{Given, EndsAtLast, LifeEndsBy, IsBeforeRequest, faults_of}
 use Rattle.run_deeds.specs.Parts.{is_quiet}
 use Rattle.run_deeds.specs.Closing.{closing_lines, closing_by}
-use Rattle.run_deeds.specs.Marks.{IsDue, KeepsLoadable, MarksBeforeSends, blocks_of}
+use Rattle.run_deeds.specs.Marks.{IsDue, KeepsLoadable, MarksBeforeSends, StopCoversSends, blocks_of}
 
 -- What was printed. All lines of the events taken, and the closing lines where the run ended well; or all lines but
 -- the last event's, which is not empty, and a front of that one; or all lines of all turns, and a front of the closing
@@ -119,6 +119,8 @@ pub record Woven (conf : Conf) (next : Need) (stood : Stood) : Type 0 where
   pub woven : events ++ missing_in ending ≡ events_of conf stood next (readings_among given.clock) given.words (receipts_among given.link)
   pub weaves : Weaves conf (Start stood next) [] given.clock given.words given.link (events ++ missing_in ending) need
   pub grows : Grows conf (reverse events)
+  -- after a line that could not be written no call of the link came
+  pub last_call : EndsAtLast ending given.link
 
 -- What the devices were asked for and given: requests, corrections and capture.
 pub record Effects (conf : Conf) {next : Need} {stood : Stood} (w : Woven conf next stood) (before now : Seen) : Type 0 where
@@ -169,6 +171,9 @@ pub record Kept (conf : Conf) {next : Need} {stood : Stood} (w : Woven conf next
   -- marks before sends, no count reserved past the last one of 32 bits, at most five calls for each block and four before
   -- the Life
   pub marks : MarksBeforeSends entry exit stood.mark (told conf (reverse w.events))
+  -- Where the disk failed, they hold just before that call too: a stop between two calls of the disk, or within one, is
+  -- the end of the run whose next call of the disk fails.
+  pub stopped : why ≡ DiskFault → StopCoversSends entry exit (told conf (reverse w.events))
   pub within : w.events ≢ [] → stood.mark + 64 * blocks_of (life_at (told conf (reverse w.events))) < 2 ^ 32
   pub calls : exit.time ≤ entry.time + 4 + 5 * (1 + length (sends_among w.given.link) / 64)
   pub blocks : CallsForBlocks why w.ending w.need (life_at (told conf (reverse w.events))) (entry.time + 4) exit.time

@@ -3,6 +3,7 @@ use Rattle.std.specs.Prelude.{◌≡◌, ℕ, ◌+◌, ◌*◌, ◌/◌, ◌%◌
 use Rattle.std.specs.List.{AllByRecursion}
 use Rattle.capture_fmt.specs.declared.event.Event.{Event}
 use Rattle.capture_fmt.specs.declared.event.Event.TheVariants.{Life, Tick, Resync, Arrive}
+use Rattle.slot_disk.specs.Calls.{LeavesAtLast}
 use Rattle.slot_disk.specs.Told.{DiskTold}
 use Rattle.stamp_keep.specs.Image.{mark_of_image}
 use Rattle.stamp_keep.specs.Keep.{KeepsMarks, RefusedAsBefore}
@@ -51,6 +52,20 @@ pub record MarksBeforeSends (entry now : DiskTold) (mark : ℕ) (before : List T
   pub above : AllByRecursion (λ r. mark < r.count) (all_sent before)
   pub covered : (image : List ℕ) → now.may_leave image → AllByRecursion (λ r. r.count ≤ mark_of_image image) (all_sent before)
   pub least : KeepsMarks entry now
+
+-- it stands for no less than some image at entry
+abbrev pub StandsNoLess : DiskTold → List ℕ → Type 0
+StandsNoLess entry image = (was : List ℕ) × entry.may_leave was × (mark_of_image was ≤ mark_of_image image)
+
+-- what a crash leaves just before the last call of the disk, or since then, stands for at least this count, and for no
+-- less than some image at entry
+abbrev pub StopCovers : DiskTold → DiskTold → ℕ → Type 0
+StopCovers entry exit count = LeavesAtLast exit (λ image. (count ≤ mark_of_image image) × StandsNoLess entry image)
+
+-- the same of each count that was sent
+abbrev pub StopCoversSends : DiskTold → DiskTold → List Told → Type 0
+StopCoversSends entry exit before =
+    LeavesAtLast exit (λ image. AllByRecursion (λ r. r.count ≤ mark_of_image image) (all_sent before) × StandsNoLess entry image)
 
 -- where a load refuses an image, it refuses one before
 pub record KeepsLoadable (old new : DiskTold) : Type 0 where

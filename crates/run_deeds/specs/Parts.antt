@@ -19,7 +19,7 @@ use Rattle.run_deeds.specs.Weaving.{Need, Weaves}
 use Rattle.run_deeds.specs.Counting.{more}
 use Rattle.run_deeds.specs.Marks.{Reserved}
 use Rattle.run_deeds.specs.Deeds.{Deed, Take, Ending, along, history_after, posted_in, moves_in, reasons_in, ticks_in, all_done, events_given}
-use Rattle.run_deeds.specs.Devices.{Given, Does, LifeEndsBy, faults_of}
+use Rattle.run_deeds.specs.Devices.{Given, Does, EndsAtLast, LifeEndsBy, faults_of}
 
 -- nothing came
 abbrev pub is_quiet : Receipt → Bool
@@ -58,6 +58,8 @@ pub record Runs (conf : Conf) (from next : Need) (history : History) (before now
   pub grows : Grows conf (history_after history (all_done deeds ending))
   pub tallies : Tallies conf history (all_done deeds ending) given.link old new
   pub ends : LifeEndsBy why ending need (faults_of before) (faults_of now)
+  -- after a line that could not be written no call of the link came
+  pub last_call : EndsAtLast ending given.link
   pub well : why ≡ Done → need ≡ next
   -- the counts reserved are those that were due
   pub reserved : why ≡ Done → Reserved kept (told conf history)

@@ -78,3 +78,12 @@ pub record LeavesOnly (old new : DiskTold) (P : List ℕ → Type 0) : Type 0 wh
   pub each : (c : List ℕ) → new.left_since old.time c → P c
   -- for a run of calls that began earlier
   pub before : (t : ℕ) (c : List ℕ) → t ≤ old.time → new.left_since t c → old.left_since t c ⊎ P c
+
+-- A crash just before the last call, or since then, leaves an image that has P. Where the count of calls has no room,
+-- nothing is said.
+pub record LeavesAtLast (new : DiskTold) (P : List ℕ → Type 0) : Type 0 where
+  pub each : new.time < 2 ^ 64 - 1 → (c : List ℕ) → new.left_since (new.time - 1) c → P c
+
+-- a call was made, where the count of calls has room
+abbrev pub WasCalled : DiskTold → DiskTold → Type 0
+WasCalled old new = new.time < 2 ^ 64 - 1 → old.time < new.time

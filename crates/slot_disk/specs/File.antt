@@ -34,4 +34,5 @@ file_is_disk disk = record {
   size = λ c left. absurd left;
   counts_now = λ t c le left. left;
   only_now = λ c left. left;
+  longer = λ s t c le left. left;
 }

@@ -89,6 +89,22 @@ only_image : (m : MemoryDisk) (image : List ℕ)
 only_image m image (inl now) = now
 only_image m image (inr had) = absurd (none_left m.past.items (length m.past.items + m.beyond) image (omega arith) had)
 
+-- an image of these moments but for the first t is one of them but for fewer
+had_longer : (past : List Moment) (s t : ℕ) (image : List ℕ) → s ≤ t → HadImage (drop t past) image → HadImage (drop s past) image
+had_longer [] zero zero image le had = had
+had_longer [] zero (suc t) image le had = had
+had_longer [] (suc s) zero image le had = had
+had_longer [] (suc s) (suc t) image le had = had
+had_longer (m ∷ past) zero zero image le had = had
+had_longer (m ∷ past) zero (suc t) image le had = inr (had_longer past zero t image (omega arith) had)
+had_longer (m ∷ past) (suc s) zero image le had = absurd (omega (arith, le))
+had_longer (m ∷ past) (suc s) (suc t) image le had = had_longer past s t image (omega (arith, le)) had
+
+longer_ago : (m : MemoryDisk) (s t : ℕ) (image : List ℕ) → s ≤ t → IsImage m.state image ⊎ HadImage (drop t m.past.items) image
+    → IsImage m.state image ⊎ HadImage (drop s m.past.items) image
+longer_ago m s t image le (inl now) = inl now
+longer_ago m s t image le (inr had) = inr (had_longer m.past.items s t image le had)
+
 pub memory_is_disk : (m : MemoryDisk) → IsDisk (memory_tells m)
 memory_is_disk m = record {
   reads_as = λ c is.
@@ -98,4 +114,5 @@ memory_is_disk m = record {
   size = λ c left. left.size ∙ m.state.size;
   counts_now = λ t c le left. inl left;
   only_now = only_image m;
+  longer = longer_ago m;
 }

@@ -23,3 +23,5 @@ pub record IsDisk (disk : DiskTold) : Type 0 where
   pub counts_now : (t : ℕ) (c : List ℕ) → t ≤ disk.time → disk.may_leave c → disk.left_since t c
   -- since this moment there is no other
   pub only_now : (c : List ℕ) → disk.left_since disk.time c → disk.may_leave c
+  -- one that it left since a time, it left since each earlier one
+  pub longer : (s t : ℕ) (c : List ℕ) → s ≤ t → disk.left_since t c → disk.left_since s c

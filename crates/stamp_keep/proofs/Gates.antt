@@ -77,6 +77,14 @@ both_moments gate at other a b c old mid new end disk is first went second goes 
     goes_on (half_moments gate at other a b old mid new disk is first went second goes) ends
     (λ image left. both_turned gate at other old mid new is first.tears second.tears image (sync.no_other.was image left))
 
+-- a crash while one gate is written and synced
+pub one_moments : (gate : ℕ) (other : Option ℕ) (a b : Put) (old mid new : DiskTold) → IsDisk old
+    → Writes a gate (165 ∷ []) old mid → Elapses old mid → Syncs b mid new → Elapses mid new → LeavesOnly old new (HasTurned old gate other)
+one_moments gate other a b old mid new disk first went sync ends =
+    let start = started old (HasTurned old gate other) disk (unturned gate other old) in
+    let turned = one_turned gate other old mid first.tears in
+    goes_on (goes_on start went turned) ends (λ image left. turned image (sync.no_other.was image left))
+
 -- one gate is written and synced
 pub one_turns : {T E : Type 0} (r : Result T E) (gate : ℕ) (other : Option ℕ) (a b : Put) (old mid new : DiskTold) → other ≡ None
     → a ≡ Done → Writes a gate (165 ∷ []) old mid → OnOk r (b ≡ Done) → Syncs b mid new → OnOk r (TurnedContent gate other old.content new.content)

@@ -1,6 +1,6 @@
 //! The keeper of the mark.
-ghost use Rattle.std.specs.Prelude.{◌≡◌, ◌+◌, ◌<◌, ◌≤◌, IfOk, IfSome, IsErrOf, OnErr, OnOk, true, false};
-ghost use Rattle.slot_disk.specs.Calls.{LeavesOnly, Written};
+ghost use Rattle.std.specs.Prelude.{◌≡◌, ◌⊎◌, ◌+◌, ◌<◌, ◌≤◌, IfOk, IfSome, IsErrOf, OnErr, OnOk, true, false};
+ghost use Rattle.slot_disk.specs.Calls.{LeavesOnly, WasCalled, Written};
 ghost use Rattle.stamp_keep.specs.Image.{mark_of_image};
 ghost use Rattle.stamp_keep.specs.Keep.{Fits, IsLeft, IsLoadable, KeepCounts, KeepsMarks, KeepsUnused};
 ghost use Rattle.stamp_keep.specs.Keep.{LeavesFromFirst, RefusedAsBefore, StandsAsBefore, StandsAsRead};
@@ -94,6 +94,7 @@ impl Keeper {
         ensures unused { LeavesOnly (D.told disk.old) (D.told disk.new) (KeepsUnused (D.told disk.old)) }
         ensures least { KeepsMarks (D.told disk.old) (D.told disk.new) }
         ensures calls { (D.told disk.new).time ≤ (D.told disk.old).time + 4 }
+        ensures called { WasCalled (D.told disk.old) (D.told disk.new) }
 
         // Another version is refused exactly where the newest open slot has it, and then nothing was written.
         ensures version { IsErrOf result KeepFault.BadVersion → IfSome (D.told disk.old).content HasOtherVersion }
@@ -146,6 +147,7 @@ impl Keeper {
         // Whatever it answers, no image stands for less than one at entry.
         ensures least { KeepsMarks (D.told disk.old) (D.told disk.new) }
         ensures calls { (D.told disk.new).time ≤ (D.told disk.old).time + 5 }
+        ensures called { IsErrOf result KeepFault.StampsSpent ⊎ WasCalled (D.told disk.old) (D.told disk.new) }
 
         ensures spent { IsErrOf result KeepFault.StampsSpent → (4294967231 < kept_mark self.old) × (disk.new ≡ disk.old) }
         ensures not_spent { 4294967231 < kept_mark self.old → IsErrOf result KeepFault.StampsSpent }
@@ -215,6 +217,7 @@ impl Keeper {
         ensures least { KeepsMarks (D.told disk.old) (D.told disk.new) }
         ensures calls { (D.told disk.new).time ≤ (D.told disk.old).time + 5 }
         ensures err { OnErr result (self.new ≡ self.old) }
+        ensures called { WasCalled (D.told disk.old) (D.told disk.new) }
         ensures only_fault { OnErr result (result ≡ Err KeepFault.DiskFault) }
         ensures cause { KeepCounts result (D.faults disk.old) (D.faults disk.new) }
     {
@@ -234,6 +237,7 @@ impl Keeper {
             (D.told disk.old).content (D.told disk.new).content) }
         ensures made { OnOk result (MadeCalls 2 (D.told disk.old) (D.told disk.new)) }
         ensures calls { (D.told disk.new).time ≤ (D.told disk.old).time + 2 }
+        ensures called { WasCalled (D.told disk.old) (D.told disk.new) }
         ensures only_fault { OnErr result (result ≡ Err KeepFault.DiskFault) }
         ensures cause { KeepCounts result (D.faults disk.old) (D.faults disk.new) }
     {
@@ -251,6 +255,7 @@ impl Keeper {
         ensures made { OnOk result (MadeCalls (gate_calls (closing self.now))
             (D.told disk.old) (D.told disk.new)) }
         ensures calls { (D.told disk.new).time ≤ (D.told disk.old).time + 3 }
+        ensures called { WasCalled (D.told disk.old) (D.told disk.new) }
         ensures only_fault { OnErr result (result ≡ Err KeepFault.DiskFault) }
         ensures cause { KeepCounts result (D.faults disk.old) (D.faults disk.new) }
     {

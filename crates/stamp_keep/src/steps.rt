@@ -1,6 +1,6 @@
 //! What the keeper does to the disk, a few calls at a time.
 ghost use Rattle.std.specs.Prelude.{◌≡◌, ◌+◌, ◌<◌, ◌≤◌, length, IfOk, IfSome, OnErr, OnOk};
-ghost use Rattle.slot_disk.specs.Calls.{IsSynced, LeavesOnly, Written};
+ghost use Rattle.slot_disk.specs.Calls.{IsSynced, LeavesOnly, WasCalled, Written};
 ghost use Rattle.stamp_keep.specs.Keep.{KeepCounts, LeavesFromFirst};
 ghost use Rattle.stamp_keep.specs.Steps.{HasRead, HasTurned, IsContent, LeavesTorn, TurnedContent};
 ghost use Rattle.stamp_keep.specs.Written.{MadeCalls, gate_calls};
@@ -16,6 +16,7 @@ pub fn read_synced<D: Disk>(disk: &mut D) -> Result<[u8; 256], KeepFault>
     ensures begins { LeavesFromFirst (D.told disk.old) (D.told disk.new) (IsContent (D.told disk.old)) }
     ensures read { IfOk result (λ image. HasRead image (D.told disk.old) (D.told disk.new)) }
     ensures calls { (D.told disk.new).time ≤ (D.told disk.old).time + 2 }
+    ensures called { WasCalled (D.told disk.old) (D.told disk.new) }
     ensures only_fault { OnErr result (result ≡ Err KeepFault.DiskFault) }
     ensures cause { KeepCounts result (D.faults disk.old) (D.faults disk.new) }
 {
@@ -33,6 +34,7 @@ pub fn write_and_sync<D: Disk>(disk: &mut D, at: usize, piece: &[u8]) -> Result<
     ensures durable { OnOk result (IsSynced (D.told disk.new)) }
     ensures made { OnOk result (MadeCalls 2 (D.told disk.old) (D.told disk.new)) }
     ensures calls { (D.told disk.new).time ≤ (D.told disk.old).time + 2 }
+    ensures called { WasCalled (D.told disk.old) (D.told disk.new) }
     ensures only_fault { OnErr result (result ≡ Err KeepFault.DiskFault) }
     ensures cause { KeepCounts result (D.faults disk.old) (D.faults disk.new) }
 {
@@ -50,6 +52,7 @@ pub fn turn_gates<D: Disk>(disk: &mut D, gate: usize, other: Option<usize>) -> R
     ensures durable { OnOk result (IsSynced (D.told disk.new)) }
     ensures made { OnOk result (MadeCalls (gate_calls other) (D.told disk.old) (D.told disk.new)) }
     ensures calls { (D.told disk.new).time ≤ (D.told disk.old).time + 3 }
+    ensures called { WasCalled (D.told disk.old) (D.told disk.new) }
     ensures only_fault { OnErr result (result ≡ Err KeepFault.DiskFault) }
     ensures cause { KeepCounts result (D.faults disk.old) (D.faults disk.new) }
 {

@@ -21,7 +21,8 @@ returns-in-Err-clause-lives g c =
     (λ is. e.version (ap Err is)) (λ is. e.refused (ap Err is))
     (λ version fault. e.loadable (λ is. version (let same : c.in-Err.why ≡ BadVersion = cc in same)) (λ is. fault (let same : c.in-Err.why ≡ DiskFault = cc in same)))
     e.calls e.least e.still_loads e.any_moment e.unused
-    (λ version fault. e.loaded (λ is. version (let same : c.in-Err.why ≡ BadVersion = cc in same)) (λ is. fault (let same : c.in-Err.why ≡ DiskFault = cc in same))))
+    (λ version fault. e.loaded (λ is. version (let same : c.in-Err.why ≡ BadVersion = cc in same)) (λ is. fault (let same : c.in-Err.why ≡ DiskFault = cc in same)))
+    (λ is. e.stopped (ap Err is)))
 
 pub returns-in-Err-clause-complete : goal.returns-in-Err-clause-complete
 returns-in-Err-clause-complete g c = let l = returns-in-Err-clause-lives g c silent in none_blamed _ l.woven.ending l.woven.need _ _ l.ended.ends
@@ -89,7 +90,7 @@ returns-clause-lives g c =
             is_mid = g.D.Disk.is_disk c.start.new.disk;
             is_exit = g.D.Disk.is_disk c.take_turns-turned.new.disk;
           })
-          w.in-Err-turned.ensures.covers)
+          w.in-Err-turned.ensures.covers (λ is. w.in-Err-turned.ensures.stopped (ap Err is)))
     ])
 
 pub returns-clause-complete : goal.returns-clause-complete

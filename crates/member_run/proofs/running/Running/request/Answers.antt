@@ -8,6 +8,7 @@ use Rattle.run_deeds.specs.Weaving.{CallWord, behind_request, call_draws, call_r
 use Rattle.member_run.specs.Running.{member_of, totals_of}
 use Rattle.member_run.proofs.Counts.{asks_follow}
 use Rattle.member_run.proofs.Following.{covers_cut, covers_going, covers_still, cut_keeper, going_on}
+use Rattle.member_run.proofs.Parting.{last_resync}
 use Rattle.member_run.proofs.Requesting.{asks_reserved, call_behind, no_count, no_reading, no_word, takes_drawn}
 use Rattle.member_run.proofs.running.Running.request.Goals as goal
 
@@ -62,6 +63,7 @@ returns-in_err-take-clause-part g c =
     takes_drawn others _ (one_call wait c.args.flags) (behind_request wait []) history (Resync c.in_ok-now.now c.in_ok-word.word c.args.flags) c.take.new.self.member _ _ _ _ _ _ _ _ _ _ _ _ _ _ _ _ _ _ _ _ _ _ c.in_ok-now.now c.in_ok-word.word
     read.0 read.1 drew.1 drew.2 c.in_ok-ensure_count.ensures.cause takes (λ cs ls need s. call_reads (call_draws s))
     (call_behind c.in_ok-now.now c.in_ok-word.word c.args.flags wait [])
+    (last_resync _ history c.in_ok-now.now c.in_ok-word.word c.args.flags)
     (asks_reserved c.args.self.now.member history (Resync c.in_ok-now.now c.in_ok-word.word c.args.flags) _ _ _ refl stands c.requires.going.begun.last c.in_ok-ensure_count.ensures.reserves))
 
 pub returns-clause-part : goal.returns-clause-part
@@ -78,6 +80,7 @@ returns-clause-part g c =
     takes_drawn others _ (one_call wait c.args.flags) (behind_request wait []) history (Resync c.in_ok-now.now c.in_ok-word.word c.args.flags) c.take.new.self.member _ _ _ _ _ _ _ _ _ _ _ _ _ _ _ _ _ _ _ _ _ _ c.in_ok-now.now c.in_ok-word.word
     read.0 read.1 drew.1 drew.2 c.in_ok-ensure_count.ensures.cause takes (λ cs ls need s. call_reads (call_draws s))
     (call_behind c.in_ok-now.now c.in_ok-word.word c.args.flags wait [])
+    (last_resync _ history c.in_ok-now.now c.in_ok-word.word c.args.flags)
     (asks_reserved c.args.self.now.member history (Resync c.in_ok-now.now c.in_ok-word.word c.args.flags) _ _ _ refl stands c.requires.going.begun.last c.in_ok-ensure_count.ensures.reserves))
 
 pub returns-clause-going : goal.returns-clause-going

@@ -50,3 +50,15 @@ returns-else-flags-eq0-clause-answers g c =
     (λ others history stands.
     answers_result c.args.wait c.args.flags c.args.self.now c.request.new.self c.round.new.self _ _ _ history c.if-wait-eq0.false stands (c.in_ok-request.ensures.part others 0) e.sends_none c.in_ok-result.result c.if-flags-eq0.false
     (e.round others))
+
+pub returns-in_err-result-clause-any_moment : goal.returns-in_err-result-clause-any_moment
+returns-in_err-result-clause-any_moment g c =
+    rw (c.disk-2-1.given.1 (sym (c.round.ensures.borrows.2 ∙ c.in_ok-request.ensures.borrows.2)), c.round.ensures.disk_alone) c.in_ok-request.ensures.any_moment
+
+pub returns-then-flags-eq0-clause-any_moment : goal.returns-then-flags-eq0-clause-any_moment
+returns-then-flags-eq0-clause-any_moment g c =
+    rw (c.disk-2-1.given.1 (sym (c.round.ensures.borrows.2 ∙ c.in_ok-request.ensures.borrows.2)), c.round.ensures.disk_alone) c.in_ok-request.ensures.any_moment
+
+pub returns-else-flags-eq0-clause-any_moment : goal.returns-else-flags-eq0-clause-any_moment
+returns-else-flags-eq0-clause-any_moment g c =
+    rw (c.disk-2-1.given.1 (sym (c.round.ensures.borrows.2 ∙ c.in_ok-request.ensures.borrows.2)), c.round.ensures.disk_alone) c.in_ok-request.ensures.any_moment

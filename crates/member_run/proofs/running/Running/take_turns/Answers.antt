@@ -1,6 +1,6 @@
 use Rattle.std.proofs.Common.{Err, ap, arith}
 use Rattle.std.proofs.lemmas.Result.{err_from_is_err_and}
-use Rattle.member_run.proofs.Leaving.{unused_then}
+use Rattle.member_run.proofs.Leaving.{stops_then, unused_then}
 use Rattle.member_run.proofs.Turning.{goes_none, goes_on, goes_stop, goes_whole, going_covers, loads_then, marks_then}
 use Rattle.member_run.proofs.running.Running.take_turns.Goals as goal
 
@@ -37,3 +37,8 @@ returns-in_err-turn-clause-still_loads g c = loads_then c.loop.invariant.loads c
 
 pub returns-in_err-turn-clause-unused : goal.returns-in_err-turn-clause-unused
 returns-in_err-turn-clause-unused g c = unused_then (g.D.Disk.is_disk c.loop.disk) c.loop.invariant.unused c.in_err-turn.ensures.unused
+
+pub returns-in_err-turn-clause-stopped : goal.returns-in_err-turn-clause-stopped
+returns-in_err-turn-clause-stopped g c =
+    let p = err_from_is_err_and c.from_residual.result c.from_residual.ensures.1 in
+    rw (p.1, p.2) (λ is. stops_then _ c.loop.invariant.least (c.in_err-turn.ensures.stopped is))

@@ -8,6 +8,7 @@ use Rattle.run_deeds.specs.Weaving.{ReceiptNow, Turns, WordFor, draws, none, rea
 use Rattle.member_run.specs.Running.{member_of, totals_of}
 use Rattle.member_run.proofs.Counts.{asks_follow}
 use Rattle.member_run.proofs.Following.{covers_cut, covers_going, covers_still, cut_keeper, going_on}
+use Rattle.member_run.proofs.Parting.{last_tick}
 use Rattle.member_run.proofs.Requesting.{asks_reserved, no_count, no_reading, no_word, takes_drawn}
 use Rattle.member_run.proofs.running.Running.tick.Goals as goal
 
@@ -61,6 +62,7 @@ returns-in_err-take-clause-part g c =
     let takes = rw (time, member, totals) at c.in_err-take.ensures.takes others history stands in
     takes_drawn others _ (Turns (suc left)) (ReceiptNow left) history (Tick c.in_ok-now.now c.in_ok-word.word) c.take.new.self.member _ _ _ _ _ _ _ _ _ _ _ _ _ _ _ _ _ _ _ _ _ _ c.in_ok-now.now c.in_ok-word.word
     read.0 read.1 drew.1 drew.2 c.in_ok-ensure_count.ensures.cause takes (λ cs ls need s. reads (draws s)) tt
+    (last_tick _ history c.in_ok-now.now c.in_ok-word.word)
     (asks_reserved c.args.self.now.member history (Tick c.in_ok-now.now c.in_ok-word.word) _ _ _ refl stands c.requires.going.begun.last c.in_ok-ensure_count.ensures.reserves))
 
 pub returns-clause-part : goal.returns-clause-part
@@ -76,6 +78,7 @@ returns-clause-part g c =
     let takes = rw (time, member, totals) at c.in_ok-take.ensures.takes others history stands in
     takes_drawn others _ (Turns (suc left)) (ReceiptNow left) history (Tick c.in_ok-now.now c.in_ok-word.word) c.take.new.self.member _ _ _ _ _ _ _ _ _ _ _ _ _ _ _ _ _ _ _ _ _ _ c.in_ok-now.now c.in_ok-word.word
     read.0 read.1 drew.1 drew.2 c.in_ok-ensure_count.ensures.cause takes (λ cs ls need s. reads (draws s)) tt
+    (last_tick _ history c.in_ok-now.now c.in_ok-word.word)
     (asks_reserved c.args.self.now.member history (Tick c.in_ok-now.now c.in_ok-word.word) _ _ _ refl stands c.requires.going.begun.last c.in_ok-ensure_count.ensures.reserves))
 
 pub returns-clause-going : goal.returns-clause-going

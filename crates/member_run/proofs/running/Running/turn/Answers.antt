@@ -35,3 +35,7 @@ pub returns-clause-covers : goal.returns-clause-covers
 returns-clause-covers g c =
     rw (c.disk-2-1.given.1 (sym (c.receive.ensures.borrows.2 ∙ c.in_ok-tick.ensures.borrows.2)), c.receive.ensures.disk_alone)
     (covers_received _ c.tick.new.self c.receive.new.self c.in_ok-tick.ensures.going c.receive.ensures.sends_none)
+
+pub returns-clause-any_moment : goal.returns-clause-any_moment
+returns-clause-any_moment g c =
+    rw (c.disk-2-1.given.1 (sym (c.receive.ensures.borrows.2 ∙ c.in_ok-tick.ensures.borrows.2)), c.receive.ensures.disk_alone) c.in_ok-tick.ensures.any_moment
