@@ -32,6 +32,7 @@ use Rattle.sntp_world.proofs.Accepting.{Passed, answered_soon, arrival_passed, b
 use Rattle.sntp_world.proofs.Allowed.{Allowed, IsNotForged, led_allowed, was_sent}
 use Rattle.sntp_world.proofs.Bounds.{given_back, in_reach, within_bound}
 use Rattle.sntp_world.proofs.Cases.{TakesNow, lives_always}
+use Rattle.sntp_world.proofs.Made.{made_of}
 use Rattle.sntp_world.proofs.Ongoing.{HasOngoing, ongoing_always}
 use Rattle.sntp_world.proofs.Packets.{first_or}
 use Rattle.sntp_world.proofs.Requests.{HasRequests, requests_always}
@@ -72,7 +73,7 @@ corrects w bytes offset request has requests nears honest p answered =
     let four = p.mode in
     omega arith) in
     let long : length q.packet.bytes ≡ 48 → ⊥ = λ (e : length q.packet.bytes ≡ 48). let same = ap length q.same in let whole = p.whole in omega arith in
-    let made = has.made.made q.packet q.sent goes long in
+    let made = made_of w.packets q.packet has.made.made q.sent goes long in
     let back : originate_of q.packet.bytes ≡ transmit_of request.bytes = ap originate_of q.same ∙ sym answered.answered in
     let one : made.request ≡ request = one_request w.packets made.request request has.made.stamps.stamped.rise made.sent answered.sent made.asks answered.asks (sym made.answers ∙ back) in
     let before = subst (λ (x : Packet). x.at.controller ≤ℤ q.packet.at.controller) one made.before in

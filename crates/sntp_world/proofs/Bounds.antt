@@ -58,25 +58,26 @@ pub within_bound : (sent came : Moment) (made : ℤ) → RunOn sent came → sen
     })
 within_bound sent came made on after before =
     within_by sent.member came.member sent.controller made came.controller _ sent.uneven came.uneven
-    (half ((made -ℤ sent.member) +ℤ (made -ℤ came.member))) after before on.uneven on.apart
+    (half ((made -ℤ sent.member) +ℤ (made -ℤ came.member))) after before on.uneven on.controller_ahead
 
 -- ---- Clocks that run on
 
 pub runs_same : (at : Moment) → RunOn at at
-runs_same at = record { member = omega (arith, ints); controller = omega (arith, ints); uneven = omega arith; apart = omega (arith, ints) }
+runs_same at = record { member = omega (arith, ints); controller = omega (arith, ints); uneven = omega arith; controller_ahead = omega (arith, ints); member_ahead = omega (arith, ints) }
 
 pub runs_more : (a b c : Moment) → RunOn a b → RunOn b c → RunOn a c
 runs_more a b c first next =
     let m = first.member in let n = next.member in
     let k = first.controller in let l = next.controller in
     let u = first.uneven in let v = next.uneven in
-    let p = first.apart in let q = next.apart in
-    record { member = omega (arith, ints); controller = omega (arith, ints); uneven = omega arith; apart = omega (arith, ints) }
+    let p = first.controller_ahead in let q = next.controller_ahead in
+    let r = first.member_ahead in let t = next.member_ahead in
+    record { member = omega (arith, ints); controller = omega (arith, ints); uneven = omega arith; controller_ahead = omega (arith, ints); member_ahead = omega (arith, ints) }
 
 on_by : (m c d e f : ℤ) (s x y n : ℕ) → e ≤ℤ pos x → (pos 0 -ℤ e) ≤ℤ pos x → f ≤ℤ pos y → (pos 0 -ℤ f) ≤ℤ pos y → x ≤ n → y ≤ n → d ≡ pos n
     → RunOn (record { member = m; controller = c; uneven = s }) (record { member = m +ℤ (d +ℤ e); controller = c +ℤ (d +ℤ f); uneven = s + (x + y) })
 on_by m c d e f s x y n e_up e_down f_up f_down few less is =
-    record { member = omega (arith, ints); controller = omega (arith, ints); uneven = omega arith; apart = omega (arith, ints) }
+    record { member = omega (arith, ints); controller = omega (arith, ints); uneven = omega arith; controller_ahead = omega (arith, ints); member_ahead = omega (arith, ints) }
 
 pub runs_passed : (d : ℕ) (e f : ℤ) (at : Moment) → MayPass d e f at → RunOn at (passed d e f at)
 runs_passed d e f at may =

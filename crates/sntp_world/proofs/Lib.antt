@@ -31,3 +31,4 @@ pub mod Ongoing
 pub mod Accurate
 pub mod Nearness
 pub mod Bounded
+pub mod OneWorld

@@ -1,6 +1,6 @@
 -- Each signed reply was made by the controller, to a request of the member that was sent before.
 use Rattle.std.proofs.Common.{◌≡◌, ◌⊎◌, ℕ, ◌==◌, Bool, true, false, List, [], ◌∷◌, ◌++◌, length, take, Some, None, cond, inl, inr, refl, subst, sym, ◌∙◌, ap, arith, ℤ}
-use Rattle.std.specs.Prelude.{option_and_then}
+use Rattle.std.specs.Prelude.{⊤, option_and_then}
 use Rattle.std.specs.List.{Contains}
 use Rattle.std.proofs.Math.Seq.{take-append_seam}
 use Rattle.std.proofs.lemmas.Bool.Decides.{Decides-eqb}
@@ -84,9 +84,10 @@ reply_made w info bytes out has honest is long = by_kind is.written
 
 -- ---- Packets
 
--- each packet to the member that isn't a header alone
+-- each packet to the member that isn't a header alone, the last one first, answers one of those before it
 abbrev pub AreMade : List Packet → Type 0
-AreMade packets = (q : Packet) → Contains packets q → q.to ≡ to.Member → (length q.bytes ≡ 48 → ⊥) → IsReplyIn packets q
+AreMade [] = ⊤
+AreMade (p ∷ before) = (p.to ≡ to.Member → (length p.bytes ≡ 48 → ⊥) → IsReplyIn before p) × AreMade before
 
 stays_made : (p : Packet) (ps : List Packet) (q : Packet) → IsReplyIn ps q → IsReplyIn (p ∷ ps) q
 stays_made p ps q is = record {
@@ -101,9 +102,14 @@ stays_made p ps q is = record {
 
 -- one more
 made_more : (p : Packet) (ps : List Packet) → (p.to ≡ to.Member → (length p.bytes ≡ 48 → ⊥) → IsReplyIn ps p) → AreMade ps → AreMade (p ∷ ps)
-made_more p ps first are q c goes long = elim (first_or p ps q c) [
-  | inl e ↦ stays_made p ps q (subst (λ (x : Packet). x.to ≡ to.Member → (length x.bytes ≡ 48 → ⊥) → IsReplyIn ps x) e first goes long)
-  | inr k ↦ stays_made p ps q (are q k goes long)
+made_more p ps first are = (first, are)
+
+-- so each of them answers one of them
+pub made_of : (ps : List Packet) (q : Packet) → AreMade ps → Contains ps q → q.to ≡ to.Member → (length q.bytes ≡ 48 → ⊥) → IsReplyIn ps q
+made_of [] q are c goes long = absurd (omega (arith, c.1))
+made_of (p ∷ ps) q are c goes long = elim (first_or p ps q c) [
+  | inl e ↦ stays_made p ps q (subst (λ (x : Packet). x.to ≡ to.Member → (length x.bytes ≡ 48 → ⊥) → IsReplyIn ps x) e are.0 goes long)
+  | inr k ↦ stays_made p ps q (made_of ps q are.1 k goes long)
 ]
 
 answered : (w : State) (info : ServerInfo) (bytes : List ℕ) (a : Answer) → HasStamps w → (Guesses w bytes → ⊥)
@@ -148,7 +154,7 @@ made_led w lives has =
     }
 
 none_made : AreMade []
-none_made q c goes long = absurd (omega (arith, c.1))
+none_made = tt
 
 pub made_always : (ops : List Op) (w : State) → WorldAfter ops w → HasMade w
 made_always ops w is =

@@ -26,7 +26,7 @@ use Rattle.sntp_world.proofs.Allowed.{Allowed, IsNotForged, always_allowed}
 use Rattle.sntp_world.proofs.Bounds.{runs_more, runs_passed, runs_same}
 use Rattle.sntp_world.proofs.Cases.{TakesNow}
 use Rattle.sntp_world.proofs.Histories.{Lives, history_after}
-use Rattle.sntp_world.proofs.Made.{HasMade, made_always, made_led}
+use Rattle.sntp_world.proofs.Made.{HasMade, made_always, made_led, made_of}
 use Rattle.sntp_world.proofs.Packets.{first_or}
 use Rattle.sntp_world.proofs.Requests.{of_one, of_push, stamp_by}
 use Rattle.sntp_world.proofs.Sending.{Fits, Opens, fits_by, opens_after, request_by}
@@ -87,7 +87,7 @@ sent_now w bytes = record { to = to.Controller; bytes = bytes; at = w.now }
 no_reply : (w : State) (count : ℕ) (bytes : List ℕ) (q : Packet) → HasMade w → IsNewRequest w count bytes → Contains w.packets q → q.to ≡ to.Member → (length q.bytes ≡ 48 → ⊥)
     → (originate_of q.bytes).seconds ≡ count → ⊥
 no_reply w count bytes q has new there goes long seconds =
-    let made = has.made q there goes long in
+    let made = made_of w.packets q has.made there goes long in
     let low = (has.stamps.packets.sound made.request made.sent).counted made.asks in
     let same = ap (λ (s : Stamp). s.seconds) made.answers in
     let above = new.above in

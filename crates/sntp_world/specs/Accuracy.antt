@@ -66,18 +66,23 @@ pub record IsReplyIn (packets : List Packet) (reply : Packet) : Type 0 where
   pub receive : IsStampOf reply.at.controller (receive_of reply.bytes)
   pub transmit : IsStampOf reply.at.controller (transmit_of reply.bytes)
 
--- nothing is forged, and no timestamp is guessed: so each packet to the member with the account's digest is such a reply
-abbrev pub LawOfReplies : Type 0
-LawOfReplies = (ops : List Op) (w : State) (reply : Packet) → WorldAfter ops w → Contains w.packets reply →
-    reply.to ≡ to.Member → HasAccountDigest reply.bytes → IsReplyIn w.packets reply
+-- each packet to the member with the account's digest, the last one first, is such a reply to one of the packets before it
+abbrev pub AreReplies : List Packet → Type 0
+AreReplies [] = ⊤
+AreReplies (p ∷ before) = (p.to ≡ to.Member → HasAccountDigest p.bytes → IsReplyIn before p) × AreReplies before
 
--- From one moment to the other both clocks ran on, and none was corrected: the controller's by no more than the member's
--- and what they ran unevenly.
+-- nothing is forged, and no timestamp is guessed: so they are in each world
+abbrev pub LawOfReplies : Type 0
+LawOfReplies = (ops : List Op) (w : State) → WorldAfter ops w → AreReplies w.packets
+
+-- From one moment to the other both clocks ran on, and none was corrected: neither by more than the other and what they ran
+-- unevenly.
 pub record RunOn (from later : Moment) : Type 0 where
   pub member : from.member ≤ℤ later.member
   pub controller : from.controller ≤ℤ later.controller
   pub uneven : from.uneven ≤ later.uneven
-  pub apart : ((later.controller -ℤ from.controller) +ℤ pos from.uneven) ≤ℤ ((later.member -ℤ from.member) +ℤ pos later.uneven)
+  pub controller_ahead : ((later.controller -ℤ from.controller) +ℤ pos from.uneven) ≤ℤ ((later.member -ℤ from.member) +ℤ pos later.uneven)
+  pub member_ahead : ((later.member -ℤ from.member) +ℤ pos from.uneven) ≤ℤ ((later.controller -ℤ from.controller) +ℤ pos later.uneven)
 
 -- so they did since a request was sent that is open
 abbrev pub LawOfRunning : Type 0

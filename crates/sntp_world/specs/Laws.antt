@@ -7,12 +7,22 @@ use Rattle.time_machine.specs.Growing.{Grows}
 use Rattle.time_machine.specs.Machine.{told}
 use Rattle.time_machine.specs.Words.{IsOpen}
 use Rattle.sntp_world.specs.declared.moment.Moment.{Moment}
+use Rattle.sntp_world.specs.declared.op.Effect.{Effect}
 use Rattle.sntp_world.specs.declared.op.Op.{Op}
 use Rattle.sntp_world.specs.declared.packet.Destination.TheVariants as to
 use Rattle.sntp_world.specs.declared.packet.Packet.{Packet}
 use Rattle.sntp_world.specs.Setting.{world_conf}
 use Rattle.sntp_world.specs.State.{State}
-use Rattle.sntp_world.specs.Steps.{WorldAfter, words_in}
+use Rattle.sntp_world.specs.Steps.{Leads, WorldAfter, words_in}
+
+-- operations lead to one world
+abbrev pub LawOfOneWorld : Type 0
+LawOfOneWorld = (ops : List Op) (one other : State) → WorldAfter ops one → WorldAfter ops other → one ≡ other
+
+-- and one more of them has one effect
+abbrev pub LawOfOneEffect : Type 0
+LawOfOneEffect = (ops : List Op) (w : State) (op : Op) (effect other : Effect) (now later : State) → WorldAfter ops w →
+    Leads op w effect now → Leads op w other later → effect ≡ other
 
 -- the member's history grows, and a Life came
 abbrev pub LawOfHistories : Type 0

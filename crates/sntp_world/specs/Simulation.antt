@@ -69,3 +69,8 @@ pub record Simulates (seed n : ℕ) (end : SimEnd) (before now : Sinks) : Type 0
   pub printed : List ℕ
   pub whole : WritesWhole seed n captured printed
   pub ends : EndsBy captured printed before now end
+
+-- all that a whole run writes is determined by its seed and its number
+abbrev pub LawOfOneRun : Type 0
+LawOfOneRun = (seed n : ℕ) (captured recorded printed written : List ℕ) →
+    WritesWhole seed n captured printed → WritesWhole seed n recorded written → (captured ≡ recorded) × (printed ≡ written)
