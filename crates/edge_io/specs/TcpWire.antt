@@ -1,5 +1,9 @@
 -- What a wire over TCP opens, and what its session gives and takes, where the bytes of the connection are known.
-use Rattle.std.specs.Prelude.{◌≡◌, ◌≢◌, ℕ, Bool, true, false, List, Option, Some, None}
+use Rattle.std.specs.Prelude.{◌≡◌, ◌≢◌, ◌⊎◌, ℕ, ℤ, pos, Bool, true, false, List, Option, Some, None}
+use Rattle.std.specs.IoError.{error_kind, raw_os_error}
+use Rattle.std.specs.declared.io.Error.{Error}
+use Rattle.std.specs.declared.io.ErrorKind.{ErrorKind}
+use Rattle.std.specs.declared.io.ErrorKind.TheVariants as error
 use Rattle.edge_traits.specs.declared.sink.Put.{Put}
 use Rattle.edge_traits.specs.declared.sink.Put.TheVariants as write
 use Rattle.edge_traits.specs.declared.source.Take.{Take}
@@ -50,3 +54,20 @@ SessionTakes write.Failed piece contents (Some old) (Some new) = ⊥
 SessionTakes put piece contents (Some old) None = put ≡ write.Failed
 SessionTakes put piece contents None (Some new) = ⊥
 SessionTakes put piece contents None None = put ≡ write.Failed
+
+-- ---- Errors of an accept that are those of one connection, or of a signal, so that the next connection may be there
+
+-- by its kind
+abbrev pub IsPassingKind : ErrorKind → Type 0
+IsPassingKind kind = (kind ≡ error.ConnectionAborted) ⊎ ((kind ≡ error.ConnectionReset) ⊎ ((kind ≡ error.HostUnreachable)
+    ⊎ ((kind ≡ error.Interrupted) ⊎ ((kind ≡ error.NetworkDown) ⊎ (kind ≡ error.NetworkUnreachable)))))
+
+-- by its number on Linux, where that has no kind of its own: no network, a protocol's error, a protocol's option that isn't
+-- there, an operation that isn't supported, a host that is down
+abbrev pub IsPassingNumber : Option ℤ → Type 0
+IsPassingNumber number = (number ≡ Some (pos 64)) ⊎ ((number ≡ Some (pos 71)) ⊎ ((number ≡ Some (pos 92))
+    ⊎ ((number ≡ Some (pos 95)) ⊎ (number ≡ Some (pos 112)))))
+
+-- by either
+abbrev pub IsPassing : Error → Type 0
+IsPassing failure = IsPassingKind (error_kind failure) ⊎ IsPassingNumber (raw_os_error failure)

@@ -1,9 +1,10 @@
 //! Sessions of TCP.
-ghost use Rattle.std.specs.Prelude.{◌≡◌, ◌≢◌, ◌<◌, false, true, IfErr, IfOk, IfSome, IsErrAnd, IsFalse, None};
+ghost use Rattle.std.specs.Prelude.{◌≡◌, ◌<◌, false, true, IfErr, IfOk, IfSome, IsErrAnd, IsFalse, IsTrue, None};
 ghost use Rattle.std.specs.Prelude.{length};
-ghost use Rattle.std.specs.IoError.{error_kind};
+ghost use Rattle.std.specs.IoError.{error_kind, raw_os_error};
 ghost use Rattle.std.specs.Option.{is_some};
-ghost use Rattle.edge_io.specs.TcpWire.{Answers, SessionGives, SessionTakes, is_accepting, used_up};
+ghost use Rattle.edge_io.specs.TcpWire.{Answers, IsPassing, IsPassingKind, IsPassingNumber, SessionGives, SessionTakes};
+ghost use Rattle.edge_io.specs.TcpWire.{is_accepting, used_up};
 ghost use Rattle.edge_io.specs.declared.tcp_wire.Side.TheVariants.{Closed, Connecting, Ended};
 ghost use Rattle.edge_traits.specs.Sink.{PutCounts};
 ghost use Rattle.edge_traits.specs.Source.{TakeCounts};
@@ -33,8 +34,8 @@ const DRAIN_LEN: usize = 512;
 /// nothing.
 ///
 /// A request for a session closes the one before it. Where a port accepts, it waits for the next connection without
-/// limit; one that was aborted before it was accepted is passed over. Where an address is connected to, the first
-/// request does so, for at most 30 seconds, and no session comes after it. Without a socket each request fails.
+/// limit; one that was lost while it waited is passed over. Where an address is connected to, the first request does so,
+/// for at most 30 seconds, and no session comes after it. Without a socket each request fails.
 ///
 /// A read fails to which nothing came within 30 seconds, and so does a write of which nothing could be sent on for so
 /// long. A piece is written whole, and a write to a peer that is gone fails and is no signal. A session of which a read
@@ -270,11 +271,9 @@ impl<L: Drop> Side<L> {
     }
 }
 
-/// The next connection. Those that were aborted before they were accepted are passed over, up to 2^64 - 1 of them.
+/// The next connection. Those that were lost while they waited are passed over, up to 2^64 - 1 of them.
 fn accept_again<L: OpenListener>(listener: &L) -> io::Result<L::Stream>
-    ensures other { IfErr result (λ error. (error_kind error ≢ ErrorKind.ConnectionAborted)
-        × (error_kind error ≢ ErrorKind.ConnectionReset)
-        × (error_kind error ≢ ErrorKind.Interrupted)) }
+    ensures other { IfErr result (λ error. IsPassing error → ⊥) }
 {
     for _ in 0..u64::MAX {
         match listener.accept() {
@@ -283,19 +282,49 @@ fn accept_again<L: OpenListener>(listener: &L) -> io::Result<L::Stream>
             Err(error) => return Err(error),
         }
     }
-    Err(io::Error::from(ErrorKind::Other))
+    Err(too_many())
 }
 
-/// An accept failed by its one connection or by a signal, and the next one may be there.
+/// The error of too many accepts.
+fn too_many() -> io::Error
+    ensures kind { IsPassingKind (error_kind result) → ⊥ }
+    ensures number { IsPassingNumber (raw_os_error result) → ⊥ }
+{
+    io::Error::other("too many accepts")
+}
+
+/// An accept failed by its one connection or by a signal, and the next connection may be there. accept(2) names the errors
+/// that a connection over TCP may have met while it waited.
 fn is_passing(error: &io::Error) -> bool
-    ensures other { IsFalse result → (error_kind error.now ≢ ErrorKind.ConnectionAborted)
-        × (error_kind error.now ≢ ErrorKind.ConnectionReset)
-        × (error_kind error.now ≢ ErrorKind.Interrupted) }
+    ensures passing { IsTrue result → IsPassing error.now }
+    ensures other { IsFalse result → IsPassing error.now → ⊥ }
+{
+    is_passing_kind(error.kind()) || is_passing_number(error.raw_os_error())
+}
+
+/// The error is of a kind that a connection or a signal alone has.
+fn is_passing_kind(kind: ErrorKind) -> bool
+    ensures passing { IsTrue result → IsPassingKind kind }
+    ensures other { IsFalse result → IsPassingKind kind → ⊥ }
 {
     matches!(
-        error.kind(),
-        ErrorKind::ConnectionAborted | ErrorKind::ConnectionReset | ErrorKind::Interrupted
+        kind,
+        ErrorKind::ConnectionAborted
+            | ErrorKind::ConnectionReset
+            | ErrorKind::HostUnreachable
+            | ErrorKind::Interrupted
+            | ErrorKind::NetworkDown
+            | ErrorKind::NetworkUnreachable
     )
+}
+
+/// The error has a number of Linux that a connection alone has: ENONET, EPROTO, ENOPROTOOPT, EOPNOTSUPP or EHOSTDOWN, which
+/// have no kind of their own.
+fn is_passing_number(number: Option<i32>) -> bool
+    ensures passing { IsTrue result → IsPassingNumber number }
+    ensures other { IsFalse result → IsPassingNumber number → ⊥ }
+{
+    matches!(number, Some(64 | 71 | 92 | 95 | 112))
 }
 
 /// The stream, whose reads and writes wait for so long, or none where that can't be set.

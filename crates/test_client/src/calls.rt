@@ -3,8 +3,8 @@ ghost use Rattle.std.specs.Prelude.{◌<◌, All, IfOk, length};
 
 use crate::asserts::{holds, same};
 use crate::bytes::{
-    ACK, BIND, BITS, BITS_240, FAULT, NAK, NAME_DC1, NAME_WITH_STATUS, OTHER_CALL, REJECTED_ACK,
-    RESULT_0, RESULT_1, RESULT_3, SOURCE, SYNC,
+    ACK, ACK_2, BIND, BITS, BITS_240, FAULT, NAK, NAME_DC1, NAME_WITH_STATUS, OTHER_CALL,
+    REJECTED_ACK, RESULT_0, RESULT_1, RESULT_3, RESULT_OF_BIND, SOURCE, SYNC,
 };
 use client_run::{AskFault, Call, Given, ask};
 use edge_io::ScriptWire;
@@ -125,14 +125,15 @@ fn calls_by_their_replies(rt: HostRuntime) -> Result<(), Fail> {
         (Call::Bits, BITS, [ACK, FAULT], refused),
         (Call::Source, SOURCE, [ACK, FAULT], refused),
         (RESYNC, SYNC, [ACK, OTHER_CALL], refused),
-        (Call::Bits, BITS, [ACK, ACK], refused),
+        (Call::Bits, BITS, [ACK, ACK_2], refused),
         (Call::Source, SOURCE, [ACK, RESULT_0], refused),
         (Call::Source, SOURCE, [ACK, NAME_WITH_STATUS], refused),
         (RESYNC, SYNC, [ACK, &RESULT_0[..27]], refused),
         (RESYNC, SYNC, [ACK, &[]], refused),
         (RESYNC, &[], [NAK, RESULT_0], refused),
         (Call::Bits, &[], [REJECTED_ACK, BITS_240], refused),
-        (Call::Source, &[], [RESULT_0, NAME_DC1], refused),
+        (Call::Source, &[], [RESULT_OF_BIND, NAME_DC1], refused),
+        (RESYNC, &[], [ACK_2, RESULT_0], refused),
         (RESYNC, &[], [&ACK[..55], &[]], refused),
         (RESYNC, &[], [&[], &[]], refused),
     ] {

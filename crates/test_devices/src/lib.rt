@@ -4,9 +4,8 @@
 //! - `streams.rt`: sources and sinks, with their failing calls.
 //! - `clocks.rt`: clocks, and random words.
 //! - `links.rt`: links, and what they tell.
-//! - `wires.rt`: wires with their sessions.
 //! - `peers.rt`: readers and writers that signals cut short, and that break.
-//! - `sockets.rt`: links and wires of the machine, on loopback.
+//! - `datagrams.rt`: links of the machine, on loopback.
 //! - `machine.rt`: its files, random words and clocks.
 //!
 //! It stands on `edge_io`, and on `base_specs` for readings. What only `edge_io` itself can see is tested there.
@@ -15,14 +14,12 @@
 #[cfg(test)]
 mod clocks;
 #[cfg(test)]
+mod datagrams;
+#[cfg(test)]
 mod links;
 #[cfg(test)]
 mod machine;
 #[cfg(test)]
 mod peers;
 #[cfg(test)]
-mod sockets;
-#[cfg(test)]
 mod streams;
-#[cfg(test)]
-mod wires;

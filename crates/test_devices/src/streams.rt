@@ -17,7 +17,7 @@ fn sizes_of(alloc: Global, numbers: &[usize]) -> Result<Vec<usize>, AllocError>
 }
 
 /// Whether a read into four bytes gives these bytes, or fails for "!", or is at the end for ".".
-pub(crate) fn is_read(taken: Take, buf: &[u8], want: &str) -> bool {
+fn is_read(taken: Take, buf: &[u8], want: &str) -> bool {
     match taken {
         Take::Bytes(count) => buf.get(..count) == Some(want.as_bytes()),
         Take::End => want == ".",

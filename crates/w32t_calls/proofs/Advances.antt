@@ -36,7 +36,7 @@ pub record Quiet (served : Served) : Type 0 where
   pub writes : served.writes ≡ []
   pub calls : served.calls ≡ []
 
-quiet_served : (n place : ℕ) (accepted : List ℕ) → Quiet (served n place accepted [] [])
+pub quiet_served : (n place : ℕ) (accepted : List ℕ) → Quiet (served n place accepted [] [])
 unfolding served
 quiet_served zero place accepted = record { writes = refl; calls = refl }
 quiet_served (suc n) place accepted =

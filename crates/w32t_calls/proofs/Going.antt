@@ -1,5 +1,5 @@
 -- A session that is served one PDU after the other.
-use Rattle.std.proofs.Common.{◌≡◌, inl, inr, ℕ, ◌+◌, ◌-◌, Bool, true, false, List, [], ◌++◌, Option, Some, None, Result, Ok, Err, refl, sym, ◌∙◌, ap, arith, subst, append_assoc}
+use Rattle.std.proofs.Common.{◌≡◌, inl, inr, ℕ, ◌+◌, ◌-◌, ◌≤◌, Bool, true, false, List, [], ◌++◌, Option, Some, None, Result, Ok, Err, refl, sym, ◌∙◌, ap, arith, subst, append_assoc}
 use Rattle.std.proofs.lemmas.List.{append-nil}
 use Rattle.base_specs.specs.Counts.{Fails}
 use Rattle.base_specs.specs.Told.{LastTold}
@@ -32,6 +32,7 @@ pub record Going (old now : Server) (is_open is_open_now : Bool) (told told_now 
   pub same_writes : writes_now ≡ writes
   pub sessions : OpensNone told told_now
   pub opened : is_open_now ≡ is_open
+  pub pdus : old.pdus ≤ now.pdus
 
 -- ---- Nothing was done yet
 
@@ -63,6 +64,7 @@ going_none old is_open told reads writes idle = record {
   same_writes = refl;
   sessions = inl refl;
   opened = refl;
+  pdus = omega arith;
 }
 
 -- ---- One PDU more
@@ -126,9 +128,9 @@ module _ (old mid new : Server) (is_open is_open_mid is_open_now : Bool) (told t
       → ((bytes : List ℕ) → Leaves is_open_mid told_mid bytes → StepTells (Ok None) mid bytes new is_open_now told_now)
       → ((answers : List Given) → is_open_mid ≡ true → HasServed answers mid told_mid → StepsOn (Ok None) answers new told_mid told_now)
       → (is_open_mid ≡ false → told_now ≡ told_mid)
-      → reads_now ≡ reads_mid → writes_now ≡ writes_mid → OpensNone told_mid told_now → is_open_now ≡ is_open_mid
+      → reads_now ≡ reads_mid → writes_now ≡ writes_mid → OpensNone told_mid told_now → is_open_now ≡ is_open_mid → mid.pdus ≤ new.pdus
       → Going old new is_open is_open_now told told_now reads reads_now writes writes_now
-  going_more idle tells runs closed same_reads same_writes sessions same_open = record {
+  going_more idle tells runs closed same_reads same_writes sessions same_open more = record {
     idle = idle;
     tells = λ bytes leaves.
         let before = going.tells bytes leaves in
@@ -143,6 +145,7 @@ module _ (old mid new : Server) (is_open is_open_mid is_open_now : Bool) (told t
     same_writes = same_writes ∙ going.same_writes;
     sessions = opens_none_both told told_mid told_now going.sessions sessions;
     opened = same_open ∙ going.opened;
+    pdus = omega (arith, going.pdus, more);
   }
 
   -- ---- The last PDU
@@ -212,7 +215,7 @@ going_step old mid new is_open is_open_mid is_open_now told told_mid told_now re
     going_more old mid new is_open is_open_mid is_open_now told told_mid told_now reads reads_mid reads_now writes writes_mid writes_now going kept.0
     (λ bytes leaves. subst (λ (r : Result (Option Call) SessionEnd). StepTells r mid bytes new is_open_now told_now) is (tells bytes leaves no_read no_write))
     (λ answers opened served. subst (λ (r : Result (Option Call) SessionEnd). StepsOn r answers new told_mid told_now) is (runs answers opened served))
-    closed (counts.no_read no_read) (counts.no_write no_write) sessions same_open
+    closed (counts.no_read no_read) (counts.no_write no_write) sessions same_open (omega (arith, kept.1))
 
 -- an end of one PDU is no other end of the session
 pub err_other : (why other : SessionEnd) → (◌≡◌ {A = Result (Option Call) SessionEnd} (Err why) (Err other) → ⊥) → ◌≡◌ {A = Result Call SessionEnd} (Err why) (Err other) → ⊥

@@ -1,12 +1,12 @@
-mod Advances
+pub mod Advances
 mod Firsts
-mod Going
+pub mod Going
 mod Lists
 mod Offered
 mod Parts
 mod Replying
 mod Served
-mod Sessions
+pub mod Sessions
 mod Stepping
 mod Taking
 pub mod Answered

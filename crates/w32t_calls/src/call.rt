@@ -21,9 +21,9 @@ pub enum Call {
 /// The answer to a call.
 #[derive(Drop)]
 pub enum Given {
-    /// To `Sync`: 0 synchronized, 1 no time data, 3 the change was too big.
+    /// To `Sync`: 0 synchronized, or not waited for or not asked for; 1 no time data; 3 the change was too big.
     Synced(u32),
-    /// To `Bits`.
+    /// To `Bits`: 0x40 and 0x200, as of `service_bits`.
     Bits(u32),
     /// To `Source`: the name of the partner, or `Local CMOS Clock`.
     Source(NameText),

@@ -19,8 +19,8 @@ use partner_pick::NameText;
 use rpc_pdu::{Pdu, PduReader, write_pdu};
 use std::marker::Model;
 
-/// The client's side of one session. The first call is `bind`; after a call that answered an error no other may follow, and
-/// at most 4,294,967,295 calls are made, the bind among them.
+/// The client's side of one session (C706, connection-oriented RPC). The first call is `bind`; after a call that answered an
+/// error no other may follow, and at most 4,294,967,295 calls are made, the bind among them.
 #[derive(Drop)]
 pub struct Caller {
     reader: PduReader,
@@ -81,7 +81,8 @@ impl Caller {
         told
     }
 
-    /// Asks the computer to synchronize, and gives the result: 0 synchronized, 1 no time data, 3 the change was too big.
+    /// Asks the computer to synchronize, and gives the result: 0 synchronized, or not waited for or not asked
+    /// for; 1 no time data; 3 the change was too big.
     ///
     /// `Fault`: the call was answered by a fault. The other errors are those of `bind` without `Nak` and `Rejected`.
     pub fn sync<W: Wire>(&mut self, wire: &mut W, wait: u32, flags: u32) -> Result<u32, CallFault>

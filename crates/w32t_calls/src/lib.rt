@@ -24,8 +24,6 @@ mod bits;
 mod call;
 mod call_fault;
 mod caller;
-#[cfg(test)]
-mod caller_tests;
 mod end;
 mod laws;
 mod pdus;
@@ -35,8 +33,6 @@ mod replies;
 mod session;
 mod source;
 mod stubs;
-#[cfg(test)]
-mod vectors;
 
 pub use bits::service_bits;
 pub use call::{Call, Given};

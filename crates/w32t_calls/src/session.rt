@@ -1,5 +1,5 @@
 //! The server's side of a session.
-ghost use Rattle.std.specs.Prelude.{◌≡◌, ◌≢◌, ◌<◌, ℕ, true, false, [], ◌∷◌, ◌++◌, List, Option, Some, None, Ok, Err, IfOk, is_ok};
+ghost use Rattle.std.specs.Prelude.{◌≡◌, ◌≢◌, ◌<◌, ◌≤◌, ◌+◌, ℕ, true, false, [], ◌∷◌, ◌++◌, List, Option, Some, None, Ok, Err, IfOk, is_ok};
 ghost use Rattle.edge_traits.specs.Wire.{Entry};
 ghost use Rattle.w32t_calls.specs.declared.call.Given.{Given};
 ghost use Rattle.rpc_pdu.specs.Fill.{OpensNone};
@@ -19,7 +19,8 @@ use std::marker::Model;
 /// PDUs that are taken of a session, at most.
 const PDUS: u32 = 10_000;
 
-/// The server's side of one session: it hands out the calls that the client asks for, and takes their answers.
+/// The server's side of one session (C706, connection-oriented RPC): it hands out the calls that the client asks for, and
+/// takes their answers.
 #[derive(Drop)]
 pub struct Session {
     reader: PduReader,
@@ -93,6 +94,10 @@ impl Session {
         // A call that is handed out waits for its answer, and after an error nothing more may be asked.
         ensures waits { IfOk result (λ call. (given : Given) → AnswersCall given call → Awaits given self.new) }
         ensures lives { self.new.alive ≡ is_ok result }
+
+        // Before a call is handed out a PDU is taken, so that a session hands out 10,000 at most.
+        ensures later { IfOk result (λ call. self.old.pdus < self.new.pdus) }
+        ensures within { IfOk result (λ call. self.new.pdus ≤ 10000) }
         ensures no_session { W.is_open wire.old ≡ false → (result ≡ (goes_on self.old [] []).end)
             × (W.told wire.new ≡ W.told wire.old) }
         ensures cause { ServeCounts result (W.faults wire.old) (W.faults wire.new)
@@ -120,6 +125,8 @@ impl Session {
             → ServesOn result answers self.new (W.told wire.old) (W.told wire.new) }
         ensures waits { IfOk result (λ call. (given : Given) → AnswersCall given call → Awaits given self.new) }
         ensures lives { IfOk result (λ call. self.new.alive ≡ true) }
+        ensures later { IfOk result (λ call. self.old.pdus < self.new.pdus) }
+        ensures within { IfOk result (λ call. self.new.pdus ≤ 10000) }
         ensures no_session { W.is_open wire.old ≡ false → (result ≢ Err SessionEnd.ReadFault)
             × (result ≢ Err SessionEnd.WriteFault) × (W.told wire.new ≡ W.told wire.old) }
         ensures cause { ServeCounts result (W.faults wire.old) (W.faults wire.new)
@@ -146,6 +153,7 @@ impl Session {
             → HasServed answers self.old (W.told wire.old)
             → StepsOn result answers self.new (W.told wire.old) (W.told wire.new) }
         ensures keeps { StepKeeps result self.old self.new }
+        ensures counts { IfOk result (λ found. self.new.pdus ≡ self.old.pdus + 1) }
         ensures no_session { W.is_open wire.old ≡ false → (result ≢ Err SessionEnd.ReadFault)
             × (result ≢ Err SessionEnd.WriteFault) × (W.told wire.new ≡ W.told wire.old) }
         ensures cause { ServeCounts result (W.faults wire.old) (W.faults wire.new)
@@ -201,6 +209,7 @@ impl Session {
             → Replied result (answers ++ given.now ∷ []) self.new (W.told wire.old) (W.told wire.new) }
         ensures idle { IfOk result (λ done. IsIdle self.new) }
         ensures lives { self.new.alive ≡ is_ok result }
+        ensures same_pdus { self.new.pdus ≡ self.old.pdus }
         ensures cause { ReplyCounts result (W.write_faults wire.old) (W.write_faults wire.new) }
         ensures no_session { W.is_open wire.old ≡ false → (result ≡ Err SessionEnd.WriteFault)
             × (W.told wire.new ≡ W.told wire.old) }
@@ -256,6 +265,3 @@ fn refuse<W: Wire>(fault: PduFault, call_id: u32, wire: &mut W) -> Result<Option
         _ => put(&protocol_fault(call_id), Err(SessionEnd::BadPdu), wire),
     }
 }
-
-#[cfg(test)]
-mod tests;

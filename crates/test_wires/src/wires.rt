@@ -1,8 +1,7 @@
 //! Wires in memory, as tables.
 ghost use Rattle.std.specs.Prelude.{◌<◌, All, IfOk, length};
 
-use crate::streams::is_read;
-use edge_io::{Opened, Put, ScriptWire, Wire};
+use edge_io::{Opened, Put, ScriptWire, Take, Wire};
 use std::alloc::{AllocError, Global};
 use std::test::Fail;
 
@@ -38,13 +37,22 @@ fn wire_of(alloc: Global, fails: &[u64], room: usize) -> Result<ScriptWire, Fail
 
 /// A call of a wire and what is wanted of it.
 #[derive(Clone, Copy)]
-enum Step {
+pub(crate) enum Step {
     /// A request for a session.
     Open(Opened),
     /// A read into four bytes: these, "!" for Failed, and "." for the end.
     Read(&'static str),
     /// A write of these bytes.
     Write(&'static str, Put),
+}
+
+/// Whether a read into four bytes gives these bytes, or fails for "!", or is at the end for ".".
+fn is_read(taken: Take, buf: &[u8], want: &str) -> bool {
+    match taken {
+        Take::Bytes(count) => buf.get(..count) == Some(want.as_bytes()),
+        Take::End => want == ".",
+        Take::Failed => want == "!",
+    }
 }
 
 /// Whether the wire does as wanted.
@@ -61,7 +69,7 @@ fn takes_step<W: Wire>(wire: &mut W, step: Step) -> bool {
 }
 
 /// The place of the first step that isn't as wanted.
-fn first_wrong_step<W: Wire>(wire: &mut W, steps: &[Step]) -> Option<usize> {
+pub(crate) fn first_wrong_step<W: Wire>(wire: &mut W, steps: &[Step]) -> Option<usize> {
     for place in 0..steps.len() {
         if !takes_step(wire, steps[place]) {
             return Some(place);

@@ -1,5 +1,5 @@
 use Rattle.std.proofs.Common.{◌<◌, All, length}
-use Rattle.test_devices.proofs.wires.pieces_of.Given as goal
+use Rattle.test_wires.proofs.wires.pieces_of.Given as goal
 
 -- no piece so far is empty
 abbrev pub invariant-loop-text : goal.invariant-loop-text

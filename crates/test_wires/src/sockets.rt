@@ -1,12 +1,9 @@
-//! Links and wires of the machine, on loopback.
+//! Wires of the machine that accept, on loopback.
 
-use edge_io::{Addr, Link, Opened, Put, Take, TcpWire, UdpLink, Wire};
+use edge_io::{Opened, Put, Take, TcpWire, Wire};
 use std::io::{Read, Write};
-use std::net::{Ipv4Addr, SocketAddrV4, TcpStream, UdpSocket};
+use std::net::{Ipv4Addr, SocketAddrV4, TcpStream};
 use std::test::Fail;
-
-/// 127.0.0.1.
-const LOCALHOST: u32 = 0x7F00_0001;
 
 /// The address of this port of the own machine.
 fn at(port: u16) -> SocketAddrV4 {
@@ -107,16 +104,5 @@ fn writes_to_a_peer_that_is_gone(rt: HostRuntime) -> Result<(), Fail> {
         (opened, is_refused, is_closed),
         (Opened::Session, true, true)
     );
-    Ok(())
-}
-
-#[test]
-fn a_link_sends_256_bytes_at_most(rt: HostRuntime) -> Result<(), Fail> {
-    let mut near = UdpLink::bind(&rt, 0)?;
-    let far = UdpSocket::bind(&rt, SocketAddrV4::new(Ipv4Addr::LOCALHOST, 0))?;
-    let (ip, port) = (LOCALHOST, far.local_addr()?.port());
-    assert_eq!(rt; near.send(Addr { ip, port }, &[7; 300]), Put::Done);
-    let mut buf = [0; 300];
-    assert_eq!(rt; far.recv_from(&mut buf)?.0, 256);
     Ok(())
 }
