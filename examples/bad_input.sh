@@ -49,8 +49,13 @@ for option in "" /keeper: /keeper "/keeper:$folder/a /keeper:$folder/b" "/keeper
     bad_words /member:1 "$config" $option
 done
 bad_words /dc:1 "$config" "/keeper:$folder/keeper"
+for word in /service /service: /service:0 /service:01 /service:10001; do bad_words $word "$config" "/keeper:$folder/keeper"; done
+bad_words /service:1 "$config"
+for option in /rpcport:0 /rpcport:65536 /rpcport:01 /nowait /computer:127.0.0.1 "/rpcport:1 /rpcport:1"; do
+    bad_words /service:1 "$config" "/keeper:$folder/keeper" $option
+done
 # What isn't built.
-for words in /service:1 /relay:1 /vote /signd:1; do
+for words in /relay:1 /vote /signd:1; do
     bad_words $words "$config"
 done
 for words in "/query /source /bits" /query "/query /source /source" "/query /source /nowait" "/source /query" "/resync /source" \

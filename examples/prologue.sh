@@ -77,6 +77,14 @@ wait_for_port() {
     return 1
 }
 
+# The same of TCP: a port is taken where any connection has it, and open where one is accepted.
+has_calls() { grep -q "^ *[0-9]*: [0-9A-F]*$(printf ':%04X' "$1") [0-9A-F:]* ${2:-}" /proc/net/tcp; }
+free_calls_port() {
+    calls_port=$((${calls_port:-49160} + 1))
+    while has_calls $calls_port; do calls_port=$((calls_port + 1)); done
+}
+wait_for_calls() { wait_until 20 has_calls "$1" "0A "; }
+
 # Begins the script again in a network of its own, which has nothing but a loopback, where the machine allows that. Its
 # first word is then `inside`.
 in_own_network() {

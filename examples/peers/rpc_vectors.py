@@ -1,5 +1,5 @@
 #!/usr/bin/env python3
-"""Sessions of the time service by impacket, beside the bytes in crates/w32t_calls/src/vectors.rt.
+"""Sessions of the time service by impacket, beside the bytes in crates/test_calls/src/vectors.rt.
 
 rpc_vectors.py
     impacket's client makes its calls over the answers that stand there, and impacket's server answers the requests. Prints
@@ -21,7 +21,7 @@ except ImportError:
     print("rpc_vectors.py: skipped, no impacket")
     sys.exit(0)
 
-TESTS = os.path.join(os.path.dirname(__file__), "../../crates/w32t_calls/src/vectors.rt")
+TESTS = os.path.join(os.path.dirname(__file__), "../../crates/test_calls/src/vectors.rt")
 SERVICE = ("8fb6d884-2388-11d0-8c35-00c04fda2795", "4.1")
 OTHER_SERVICE = ("8fb6d884-2388-11d0-8c35-00c04fda2796", "4.1")
 OBJECT = b"\x33" * 16

@@ -1,8 +1,8 @@
 //! Sessions that are answered, refused, or break off.
 use crate::asserts::{Want, expect, ran_of};
 use crate::messages::{
-    ACK, ASK_BITS, ASK_SOURCE, BIND, BITS, FAULT, NAK, NO_TIME, OTHER, REJECTING, SHORT, SOURCE,
-    SYNC, SYNC_BOTH, SYNC_NOWAIT, SYNC_REDISCOVER, SYNCED, TOO_BIG,
+    ACK, ACK_2, ASK_BITS, ASK_SOURCE, BIND, BITS, FAULT, FAULT_1, NAK, NO_TIME, OTHER, REJECTING,
+    SHORT, SOURCE, SYNC, SYNC_BOTH, SYNC_NOWAIT, SYNC_REDISCOVER, SYNCED, TOO_BIG,
 };
 use std::alloc::Global;
 use std::process::Abort;
@@ -106,17 +106,19 @@ fn answers_in_any_pieces(rt: HostRuntime) -> Result<(), Fail> {
     Ok(())
 }
 
-// The bind is refused by a bind_nak, by its result, by a fault, or by nothing; the call by a fault, by a reply that is too
-// short or none, by a reply that breaks off, or by nothing.
+// The bind is refused by a bind_nak, by its result, by a fault, by the reply to another call, or by nothing; the call by a
+// fault, by a reply that is too short, by a bind_ack, by the reply to another call, by one that breaks off, or by nothing.
 const REFUSALS: &[(&[&[u8]], bool)] = &[
     (&[NAK], false),
     (&[REJECTING, SYNCED], false),
-    (&[FAULT], false),
+    (&[FAULT_1], false),
+    (&[ACK_2], false),
     (&[b"\x05\x00\x0C\x03"], false),
     (&[], false),
     (&[ACK, FAULT], true),
     (&[ACK, SHORT], true),
-    (&[ACK, ACK], true),
+    (&[ACK, ACK_2], true),
+    (&[ACK, FAULT_1], true),
     (
         &[
             ACK,

@@ -1,5 +1,5 @@
 //! The order of calls of `/resync` and `/query`.
-use crate::expected::{Row, Run, expect_all_faults, expect_orders};
+use crate::expected::{Row, Run, Sessions, expect_all_faults, expect_orders};
 use std::test::Fail;
 use test_scripts::{STEADY, Script};
 use w32tm_cmd::Status;
@@ -79,5 +79,5 @@ fn orders_of_calls(rt: HostRuntime) -> Result<(), Fail> {
 
 #[test]
 fn each_call_fails_last(rt: HostRuntime) -> Result<(), Fail> {
-    expect_all_faults(&rt, rt.alloc(), &rows())
+    expect_all_faults(&rt, rt.alloc(), &rows(), Sessions::Asked)
 }

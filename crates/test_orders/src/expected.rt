@@ -14,6 +14,13 @@ pub(crate) struct Run<'a> {
     pub status: Status,
 }
 
+/// Whether the sessions of the wire are those of a service, or the one of a client.
+#[derive(Clone, Copy, PartialEq, Eq)]
+pub(crate) enum Sessions {
+    Served,
+    Asked,
+}
+
 /// Letters, and how often they come, one after the other.
 pub(crate) type Part<'a> = (usize, &'a str);
 
@@ -47,7 +54,17 @@ pub(crate) fn expect_order(
     Ok(())
 }
 
-/// How a run ends of whose devices this one fails at a call of this letter: a link ends none.
+/// Whether a run goes on behind a call of this letter that fails: behind a send or a receive of the link, and in a service
+/// behind a read or a write of a session.
+fn goes_on(letter: u8, sessions: Sessions) -> bool {
+    match letter {
+        b's' | b'r' => true,
+        b'h' | b'p' => sessions == Sessions::Served,
+        _ => false,
+    }
+}
+
+/// How a run ends of whose devices this one fails at a call of this letter, where that ends it.
 fn status_of(device: Device, letter: u8, run: &Run) -> Status {
     match device {
         Device::Config | Device::Input => Status::ReadFault,
@@ -61,14 +78,14 @@ fn status_of(device: Device, letter: u8, run: &Run) -> Status {
     }
 }
 
-/// Where the call at this place fails, the calls before it are the same, and it is the last one, but for a send or a
-/// receive.
+/// Where the call at this place fails, the calls before it are the same, and it is the last one, unless the run goes on.
 fn expect_fault(
     rt: &impl Abort,
     alloc: Global,
     run: &Run,
     word: &[u8],
     place: usize,
+    sessions: Sessions,
 ) -> Result<(), Fail> {
     let (Some((device, call)), Some(letter)) = (call_at(word, place), word.get(place).copied())
     else {
@@ -84,13 +101,14 @@ fn expect_fault(
     let end = place.saturating_add(1);
     let front = ran.letters.get(..end);
     let is_last = ran.letters.len() == end;
+    let status = if goes_on(letter, sessions) {
+        run.status
+    } else {
+        status_of(device, letter, run)
+    };
     assert_eq!(rt;
         (ran.status, front, is_last),
-        (
-            status_of(device, letter, run),
-            word.get(..end),
-            device != Device::Link
-        ),
+        (status, word.get(..end), !goes_on(letter, sessions)),
         "call {place}"
     );
     Ok(())
@@ -102,9 +120,10 @@ pub(crate) fn expect_faults(
     alloc: Global,
     run: &Run,
     word: &[u8],
+    sessions: Sessions,
 ) -> Result<(), Fail> {
     for place in 0..word.len() {
-        expect_fault(rt, alloc, run, word, place)?;
+        expect_fault(rt, alloc, run, word, place, sessions)?;
     }
     Ok(())
 }
@@ -118,11 +137,16 @@ pub(crate) fn expect_orders(rt: &impl Abort, alloc: Global, rows: &[Row]) -> Res
     Ok(())
 }
 
-/// Each call of these runs fails in its turn, and is the last one, but for a send or a receive.
-pub(crate) fn expect_all_faults(rt: &impl Abort, alloc: Global, rows: &[Row]) -> Result<(), Fail> {
+/// Each call of these runs fails in its turn, and is the last one, unless the run goes on.
+pub(crate) fn expect_all_faults(
+    rt: &impl Abort,
+    alloc: Global,
+    rows: &[Row],
+    sessions: Sessions,
+) -> Result<(), Fail> {
     for (run, parts) in rows {
         let word = word_of(alloc, parts)?;
-        expect_faults(rt, alloc, run, &word)?;
+        expect_faults(rt, alloc, run, &word, sessions)?;
     }
     Ok(())
 }

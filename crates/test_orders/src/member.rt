@@ -1,5 +1,5 @@
 //! The order of calls of `/member`.
-use crate::expected::{Part, Run, expect_faults, expect_order, word_of};
+use crate::expected::{Part, Run, Sessions, expect_faults, expect_order, word_of};
 use edge_io::Addr;
 use std::alloc::{AllocError, Global};
 use std::test::Fail;
@@ -112,5 +112,11 @@ fn each_call_fails_last(rt: HostRuntime) -> Result<(), Fail> {
     let readings = readings_of(alloc)?;
     let random = words_of(alloc)?;
     let word = word_of(alloc, CALLS)?;
-    expect_faults(&rt, alloc, &run_of(&readings, &random), &word)
+    expect_faults(
+        &rt,
+        alloc,
+        &run_of(&readings, &random),
+        &word,
+        Sessions::Asked,
+    )
 }

@@ -1,5 +1,5 @@
 //! The order of calls of the other commands.
-use crate::expected::{Row, Run, expect_all_faults, expect_orders};
+use crate::expected::{Row, Run, Sessions, expect_all_faults, expect_orders};
 use edge_io::Addr;
 use std::test::Fail;
 use test_scripts::{Came, LATER, NEW_YEAR, REQUEST, SETTINGS, STEADY, Script};
@@ -89,17 +89,7 @@ const ROWS: &[Row] = &[
             },
             status: Status::Done,
         },
-        &[
-            (1, "gg"),
-            (17, "i"),
-            (1, "o"),
-            (13, "i"),
-            (1, "o"),
-            (19, "i"),
-            (1, "o"),
-            (1, "i"),
-            (1, "o"),
-        ],
+        &[(1, "ggioooio")],
     ),
     (
         Run {
@@ -143,5 +133,5 @@ fn orders_of_calls(rt: HostRuntime) -> Result<(), Fail> {
 
 #[test]
 fn each_call_fails_last(rt: HostRuntime) -> Result<(), Fail> {
-    expect_all_faults(&rt, rt.alloc(), ROWS)
+    expect_all_faults(&rt, rt.alloc(), ROWS, Sessions::Asked)
 }

@@ -1,5 +1,5 @@
 //! The order of calls of runs that end otherwise than as Done, though no call of a device fails.
-use crate::expected::{Row, Run, expect_all_faults, expect_orders};
+use crate::expected::{Row, Run, Sessions, expect_all_faults, expect_orders};
 use dc_sign::Refusal;
 use std::test::Fail;
 use test_scripts::{NEW_YEAR, SETTINGS, STEADY, Script};
@@ -73,10 +73,7 @@ fn rows() -> [Row; 5] {
     let bad = Status::BadCapture { at: 17 };
     [
         (run_of(sign, b"", b"short", short), &[(1, "iitt")]),
-        (
-            run_of(replay, SETTINGS, CAPTURE, bad),
-            &[(1, "gg"), (17, "i"), (1, "oi")],
-        ),
+        (run_of(replay, SETTINGS, CAPTURE, bad), &[(1, "ggio")]),
         (run_of(member, ALONE, b"", Status::NoPartner), &[(1, "gg")]),
         (member_on(kept(9, 64), Status::BadKeeper), &[(1, "ggyd")]),
         (
@@ -93,5 +90,5 @@ fn orders_of_refusals(rt: HostRuntime) -> Result<(), Fail> {
 
 #[test]
 fn each_call_fails_last(rt: HostRuntime) -> Result<(), Fail> {
-    expect_all_faults(&rt, rt.alloc(), &rows())
+    expect_all_faults(&rt, rt.alloc(), &rows(), Sessions::Asked)
 }

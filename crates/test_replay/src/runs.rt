@@ -165,20 +165,18 @@ fn realistic_run(rt: HostRuntime) -> Result<(), Fail> {
 /// many of the capture are left.
 type Row = (Device, u64, Status, usize, usize);
 
-// The settings have 176 bytes, in a piece of 30 and one of the rest. Each byte of the capture is one read, and each line
-// is one write.
+// The settings have 176 bytes and the capture 132, each in a piece of 30 and one of the rest. The capture's first piece has
+// two records, which are judged before the second is read. Each line is one write.
 const FAULTS: &[Row] = &[
     (Device::Config, 1, Status::ReadFault, 0, 132),
     (Device::Config, 2, Status::ReadFault, 0, 132),
     (Device::Config, 3, Status::ReadFault, 0, 132),
     (Device::Input, 1, Status::ReadFault, 0, 132),
-    (Device::Input, 17, Status::ReadFault, 0, 116),
-    (Device::Input, 18, Status::ReadFault, 12, 115),
-    (Device::Input, 47, Status::ReadFault, 37, 86),
-    (Device::Input, 133, Status::ReadFault, 75, 0),
-    (Device::Out, 1, Status::WriteFault, 0, 115),
+    (Device::Input, 2, Status::ReadFault, 37, 102),
+    (Device::Input, 3, Status::ReadFault, 75, 0),
+    (Device::Out, 1, Status::WriteFault, 0, 102),
     (Device::Out, 2, Status::WriteFault, 12, 102),
-    (Device::Out, 3, Status::WriteFault, 37, 85),
+    (Device::Out, 3, Status::WriteFault, 37, 0),
     (Device::Out, 4, Status::WriteFault, 50, 0),
     (Device::Out, 5, Status::WriteFault, 75, 0),
     (Device::Out, 6, Status::Done, 106, 0),
@@ -212,6 +210,62 @@ fn faults_of_a_replay(rt: HostRuntime) -> Result<(), Fail> {
         let (device, call, ..) = *row;
         let ran = run_failing(rt.alloc(), device, call)?;
         expect_row(&rt, row, &ran);
+    }
+    Ok(())
+}
+
+/// So many lives have one byte more than a reader has room for.
+const MANY: usize = 241;
+
+/// The capture of these lives, each of which begins at the first moment and has the mark 0.
+fn many_lives() -> [u8; 17 * MANY] {
+    let mut capture = [0; 17 * MANY];
+    for life in 0..MANY {
+        capture[17 * life..17 * life + 5].copy_from_slice(b"\x01W32T");
+    }
+    capture
+}
+
+/// How many bytes of that capture come, in one piece; the number of the read that fails; then the status, and how many
+/// bytes of lines were written.
+type Long = (usize, u64, Status, usize);
+
+// Each life has a line of 12 bytes, and the total line has 31. A read for each 4,096 bytes is made, and one that finds the
+// end, so there is no tenth.
+const LONG: &[Long] = &[
+    (4096, 0, Status::BadCapture { at: 4080 }, 2880),
+    (4097, 10, Status::Done, 2923),
+    (4097, 3, Status::ReadFault, 2892),
+    (4097, 2, Status::ReadFault, 2880),
+];
+
+fn run_long(alloc: Global, row: &Long) -> Result<Ran, Fail> {
+    let failing = [(Device::Input, row.1)];
+    let script = Script {
+        pieces: &[5000],
+        failing: &failing,
+        room: 3000,
+        ..MEMBER
+    };
+    let capture = many_lives();
+    run(alloc, WORDS, capture.get(..row.0).unwrap_or(b""), &script)
+}
+
+fn expect_long(rt: &impl Abort, row: &Long, ran: &Ran) {
+    let (len, call, status, written) = *row;
+    assert_eq!(rt;
+        (ran.status, ran.written().len()),
+        (status, written),
+        "{len} {call}"
+    );
+    expect_untouched(rt, ran);
+}
+
+#[test]
+fn record_across_two_reads(rt: HostRuntime) -> Result<(), Fail> {
+    for row in LONG {
+        let ran = run_long(rt.alloc(), row)?;
+        expect_long(&rt, row, &ran);
     }
     Ok(())
 }

@@ -1,6 +1,6 @@
 //! Runs of `/simulate`.
 use md5::{Digest, Md5};
-use std::alloc::Global;
+use std::alloc::{AllocError, Global};
 use std::process::Abort;
 use std::test::Fail;
 use test_scripts::{Device, Ran, STEADY, Script, run};
@@ -118,35 +118,102 @@ const LONGEST: Row = (
 
 const TOTAL: &[u8] = b"total sent=12540 moved=148 refused=23178\n";
 
-/// The report ends with the numbers of the summary.
-fn expect_total(rt: &impl Abort, ran: &Ran) {
+/// The report of this capture ends with the numbers of the summary.
+fn expect_total(rt: &impl Abort, alloc: Global, capture: &[u8]) -> Result<(), Fail> {
+    let ran = run(alloc, &["/replay", "/config:c"], capture, &REPLAY)?;
     assert_eq!(rt;
         (ran.status, ran.written().ends_with(TOTAL)),
         (Status::Done, true)
     );
+    Ok(())
+}
+
+/// The capture of the longest run.
+fn longest(rt: &impl Abort, alloc: Global) -> Result<Vec<u8>, Fail> {
+    let ran = run_row(alloc, &LONGEST)?;
+    expect_row(rt, &LONGEST, &ran);
+    Ok(ran.capture().to_vec(alloc)?)
 }
 
 /// Words that are no command of it, and that touch nothing.
-fn expect_bad_words(rt: &impl Abort, words: &[&str], ran: &Ran) {
+fn expect_bad_words(rt: &impl Abort, alloc: Global, words: &[&str]) -> Result<(), Fail> {
+    let ran = run(alloc, words, b"input", &STEADY)?;
     assert_eq!(rt;
         (ran.status, ran.status.code(), ran.written(), ran.capture()),
         (Status::BadWords, 1, b"".as_slice(), b"".as_slice()),
         "{words:?}"
     );
+    Ok(())
 }
 
 #[test]
 fn world_and_simulate(rt: HostRuntime) -> Result<(), Fail> {
-    let alloc = rt.alloc();
     for words in [["/simulate:1:0"].as_slice(), &["/simulate:1:100001"]] {
-        expect_bad_words(&rt, words, &run(alloc, words, b"input", &STEADY)?);
+        expect_bad_words(&rt, rt.alloc(), words)?;
     }
     // A second run says the same.
     for _ in 0..2 {
-        let ran = run_row(alloc, &LONGEST)?;
-        expect_row(&rt, &LONGEST, &ran);
-        let report = run(alloc, &["/replay", "/config:c"], ran.capture(), &REPLAY)?;
-        expect_total(&rt, &report);
+        let capture = longest(&rt, rt.alloc())?;
+        expect_total(&rt, rt.alloc(), &capture)?;
+    }
+    Ok(())
+}
+
+/// Sizes of pieces, and how many of that size have more bytes than the capture.
+const PIECES: &[(usize, usize)] = &[(1, 490_000), (7, 70_000), (4096, 120)];
+
+/// So many pieces of this size.
+fn pieces_of(alloc: Global, size: usize, count: usize) -> Result<Vec<usize>, AllocError> {
+    let mut pieces = Vec::new(alloc);
+    for _ in 0..count {
+        pieces.push(size)?;
+    }
+    Ok(pieces)
+}
+
+/// The report on a capture that comes in these pieces, all of which is read.
+fn report_in_pieces(
+    rt: &impl Abort,
+    alloc: Global,
+    capture: &[u8],
+    pieces: &[usize],
+) -> Result<Vec<u8>, Fail> {
+    let script = Script { pieces, ..REPLAY };
+    let ran = run(alloc, &["/replay", "/config:c"], capture, &script)?;
+    assert_eq!(rt; (ran.status, ran.left), (Status::Done, 0));
+    Ok(ran.written().to_vec(alloc)?)
+}
+
+/// A capture of more than 400,000 bytes.
+fn long_capture(rt: &impl Abort, alloc: Global) -> Result<Vec<u8>, Fail> {
+    let words = ["/simulate:7:20000", "/capture:c"];
+    let ran = run(alloc, &words, b"input", &ROOMY)?;
+    let len = ran.capture().len();
+    assert!(rt; len > 400_000 && len < 490_000);
+    Ok(ran.capture().to_vec(alloc)?)
+}
+
+/// The report on a capture in these pieces is this one.
+fn expect_report(
+    rt: &impl Abort,
+    alloc: Global,
+    capture: &[u8],
+    pieces: &[usize],
+    report: &[u8],
+) -> Result<(), Fail> {
+    let got = report_in_pieces(rt, alloc, capture, pieces)?;
+    assert!(rt; got.as_slice() == report);
+    Ok(())
+}
+
+// However a capture is cut into pieces, its report is the same.
+#[test]
+fn report_of_pieces(rt: HostRuntime) -> Result<(), Fail> {
+    let capture = long_capture(&rt, rt.alloc())?;
+    let whole = report_in_pieces(&rt, rt.alloc(), &capture, &[490_000])?;
+    for (size, count) in PIECES {
+        let pieces = pieces_of(rt.alloc(), *size, *count)?;
+        expect_report(&rt, rt.alloc(), &capture, &pieces, &whole)?;
     }
     Ok(())
 }

@@ -4,7 +4,7 @@ use Rattle.std.specs.declared.alloc.Global.{Global}
 use Rattle.edge_io.specs.declared.random.RandomFile.{RandomFile}
 use Rattle.edge_io.specs.declared.udp_link.UdpLink.{UdpLink}
 use Rattle.w32tm_text.specs.declared.words.Action.{Action}
-use Rattle.w32tm_text.specs.declared.words.Action.TheVariants.{Dc, Member, Monitor, Replay, Simulate}
+use Rattle.w32tm_text.specs.declared.words.Action.TheVariants.{Dc, Member, Monitor, Replay, Simulate, Service}
 use Rattle.w32tm_text.specs.declared.words.Command.{Command}
 use Rattle.w32tm_text.specs.Words.{texts}
 
@@ -18,6 +18,7 @@ abbrev pub default_port : Action → Option ℕ
 default_port (Dc turns) = Some 123
 default_port (Member turns) = Some 0
 default_port Monitor = Some 0
+default_port (Service sessions) = Some 0
 default_port _ = None
 
 -- the local port of a command's link, if there is a command with one: that which the words name, and else its own
@@ -29,6 +30,7 @@ port_by (Some command) = option_map (λ port. unwrap_or command.port port) (defa
 abbrev pub draws : Action → Bool
 draws (Member turns) = true
 draws Monitor = true
+draws (Service sessions) = true
 draws _ = false
 
 -- whether there is a command that draws them
@@ -49,10 +51,12 @@ abbrev pub capture_read : Action → Option ℕ → Option ℕ
 capture_read Replay place = place
 capture_read action place = None
 
--- the word of the capture that a command records: `/member` and `/simulate` record it, and no other command does
+-- the word of the capture that a command records: `/member`, `/service` and `/simulate` record it, and no other command
+-- does
 abbrev pub capture_recorded : Action → Option ℕ → Option ℕ
 capture_recorded (Member turns) place = place
 capture_recorded (Simulate seed operations) place = place
+capture_recorded (Service sessions) place = place
 capture_recorded action place = None
 
 -- the words that name a file of this command, if there is a command: its settings, its keeper, the samples of its clock,

@@ -132,12 +132,12 @@ pub(crate) fn capture_read(command: &Command) -> Option<usize>
     }
 }
 
-/// The word of the capture that is recorded: `/member` and `/simulate` alone record one.
+/// The word of the capture that is recorded: `/member`, `/service` and `/simulate` alone record one.
 pub(crate) fn capture_recorded(command: &Command) -> Option<usize>
     ensures { result ≡ capture_recorded command.now.action command.now.capture }
 {
     match command.action {
-        Action::Member(_) | Action::Simulate(_, _) => command.capture,
+        Action::Member(_) | Action::Simulate(_, _) | Action::Service(_) => command.capture,
         _ => None,
     }
 }
@@ -156,7 +156,7 @@ pub(crate) fn link_of<R: Net>(net: &R, command: &Option<Command>) -> UdpLink
     }
 }
 
-/// The random words, which `/member` and `/monitor` draw.
+/// The random words, which `/member`, `/service` and `/monitor` draw.
 pub(crate) fn entropy_of<R: Files>(files: &R, command: &Option<Command>) -> RandomFile<R::File>
     // The others open no file of random words.
     ensures no_draws { draws_by command.now ≡ false → has_words result ≡ false }
@@ -175,7 +175,10 @@ fn draws_by(command: &Option<Command>) -> bool
     ensures { result ≡ draws_by command.now }
 {
     match command {
-        Some(command) => matches!(command.action, Action::Member(_) | Action::Monitor),
+        Some(command) => matches!(
+            command.action,
+            Action::Member(_) | Action::Monitor | Action::Service(_)
+        ),
         None => false,
     }
 }
@@ -224,7 +227,7 @@ fn port_of(command: &Command) -> Option<u16>
 {
     let default_port = match command.action {
         Action::Dc(_) => CONTROLLER_PORT,
-        Action::Member(_) | Action::Monitor => ANY_PORT,
+        Action::Member(_) | Action::Monitor | Action::Service(_) => ANY_PORT,
         _ => return None,
     };
     Some(command.port.unwrap_or(default_port))
@@ -249,6 +252,15 @@ mod tests {
             (&["/member:3", "/port:8", "/config:a", "/keeper:b"], Some(8)),
             (&["/monitor", "/config:a"], Some(0)),
             (&["/monitor", "/port:9", "/config:a"], Some(9)),
+            (&["/service:3", "/config:a", "/keeper:b"], Some(0)),
+            (
+                &["/service:3", "/config:a", "/keeper:b", "/port:8"],
+                Some(8),
+            ),
+            (
+                &["/service:3", "/config:a", "/keeper:b", "/rpcport:8"],
+                Some(0),
+            ),
             (&["/replay", "/config:a"], None),
             (&["/show:"], None),
             (&["/query", "/bits"], None),
@@ -277,6 +289,12 @@ mod tests {
             (&["/member:3", "/config:a", "/keeper:c"], None, None),
             (&["/monitor", "/config:a"], None, None),
             (&["/simulate:1:2", "/capture:b"], None, Some(1)),
+            (
+                &["/service:3", "/config:a", "/keeper:b", "/capture:c"],
+                None,
+                Some(3),
+            ),
+            (&["/service:3", "/config:a", "/keeper:b"], None, None),
             (&["/simulate:1:2"], None, None),
         ] {
             let words = owned(rt.alloc(), words)?;

@@ -1,7 +1,7 @@
 //! Why something that a command names can't be opened, where the environment asks for it.
 
 use crate::devices::{capture_read, capture_recorded, path_in, port_by};
-use crate::wire::target_by;
+use crate::wire::{rpc_port_by, target_by};
 use edge_io::{Addr, UdpLink};
 use libc::net::{POLLERR, POLLOUT, poll};
 use libc::types::pollfd;
@@ -9,7 +9,7 @@ use slot_disk::FileDisk;
 use std::alloc::{AllocError, Global};
 use std::fs::{File, OpenOptions};
 use std::io;
-use std::net::{Ipv4Addr, Net, SocketAddr, SocketAddrV4, TcpStream};
+use std::net::{Ipv4Addr, Net, SocketAddr, SocketAddrV4, TcpListener, TcpStream};
 use std::os::fd::AsRawFd;
 use std::rt::{Env, Files};
 use std::time::Duration;
@@ -49,6 +49,11 @@ pub(crate) fn explanation<R: Files<File = File> + Net>(
         && let Err(reason) = UdpLink::bind(rt, port)
     {
         writeln!(text, "w32tm: port {port}: {reason}")?;
+    }
+    if let Some(port) = rpc_port_by(command)
+        && let Err(reason) = TcpListener::bind(rt, SocketAddrV4::new(Ipv4Addr::UNSPECIFIED, port))
+    {
+        writeln!(text, "w32tm: port {port} of remote calls: {reason}")?;
     }
     if *status == Status::ReadFault
         && let Some(target) = target_by(command)
@@ -248,6 +253,25 @@ mod tests {
         let text = explanation(&rt, rt.alloc(), &words, &command, &Status::Done)?;
         let line = format!(in rt.alloc();
             "w32tm: port {port}: Address already in use (os error 98)\n"
+        )?;
+        assert_eq!(rt; text.as_str(), line.as_str());
+        Ok(())
+    }
+
+    #[test]
+    fn reason_of_a_port_of_calls(rt: HostRuntime) -> Result<(), Fail> {
+        let taken = TcpWire::listen(&rt, 0)?;
+        let port = taken.port()?;
+        let mut words = Vec::new(rt.alloc());
+        for text in ["/service:1", "/config:/dev/null", "/keeper:/dev/null"] {
+            words.push(String::from_str(rt.alloc(), text)?)?;
+        }
+        words.push(format!(in rt.alloc(); "/rpcport:{port}")?)?;
+        let command = read_words(&words).ok();
+        let text = explanation(&rt, rt.alloc(), &words, &command, &Status::ReadFault)?;
+        let line = format!(in rt.alloc();
+            "w32tm: /dev/null: not a regular file\n\
+             w32tm: port {port} of remote calls: Address already in use (os error 98)\n"
         )?;
         assert_eq!(rt; text.as_str(), line.as_str());
         Ok(())

@@ -3,6 +3,7 @@
 //! - `/dc` answers the computers of a domain as their controller, and `/sign` one request on standard input;
 //! - `/member` keeps a clock by its domain, and `/replay` says what a member does with the events of a capture;
 //! - `/monitor` asks each computer of a domain for the time, and `/show` prints the fields of a message;
+//! - `/service` keeps a clock as `/member` does, where remote calls ask for it;
 //! - `/resync` has a computer's time service synchronize, and `/query` asks it for its source or for what it announces;
 //! - `/simulate` runs a member in a simulated world.
 //!
@@ -15,8 +16,8 @@
 //! says why. `streams.rt` takes the standard streams that are closed before the run, and has the line and the code after
 //! it. The devices are those of `edge_io`: files, standard input and output, a UDP socket, a TCP connection, the machine's
 //! clock and its random words; the keeper's disk is the file of `slot_disk`. `input.rt` has the one type of all that is
-//! read, `output.rt` of all that is written, `clock.rt` of the clock, and `wire.rt` has whom a command calls; the
-//! definitions of each stand in `specs/` under its name.
+//! read, `output.rt` of all that is written, `clock.rt` of the clock, and `wire.rt` has whom a command
+//! calls, and where a service is called; the definitions of each stand in `specs/` under its name.
 #![tactic(auto)]
 
 mod clock;

@@ -1,5 +1,5 @@
 //! All devices of a command, each under the name of what the command does with it.
-ghost use Rattle.std.specs.Prelude.{◌≡◌, IfOk, None, Some, false, true};
+ghost use Rattle.std.specs.Prelude.{◌≡◌, ℕ, IfOk, None, Some, false, true};
 ghost use Rattle.edge_io.specs.declared.tcp_wire.Side.TheVariants.{Closed, Connecting};
 ghost use Rattle.edge_traits.specs.declared.datagram.Addr.{Addr};
 ghost use Rattle.slot_disk.specs.File.{is_open};
@@ -7,7 +7,7 @@ ghost use Rattle.w32tm.specs.Clock.{is_sampled};
 ghost use Rattle.w32tm.specs.Devices.{config_by, draws_by, has_socket, has_words, keeper_by, port_by, read_by, recorded_by, samples_by};
 ghost use Rattle.w32tm.specs.Input.{is_closed, is_standard};
 ghost use Rattle.w32tm.specs.Output.{is_file, is_null};
-ghost use Rattle.w32tm.specs.Wire.{target_by};
+ghost use Rattle.w32tm.specs.Wire.{IsListening, rpc_port_by, target_by};
 
 use crate::clock::MachineClock;
 use crate::devices::{
@@ -79,7 +79,11 @@ pub(crate) fn outside_of<
     // A service is called where the command calls one, and it is that of the words.
     ensures called { (to : Addr) → target_by command.now ≡ Some to
         → IfOk result (λ o. o.wire.side ≡ Connecting to) }
-    ensures no_call { target_by command.now ≡ None → IfOk result (λ o. o.wire.side ≡ Closed) }
+    // A service accepts sessions; the others have none.
+    ensures served { (port : ℕ) → rpc_port_by command.now ≡ Some port
+        → IfOk result (λ o. IsListening o.wire.side) }
+    ensures no_wire { target_by command.now ≡ None → rpc_port_by command.now ≡ None
+        → IfOk result (λ o. o.wire.side ≡ Closed) }
 {
     let (config, keeper, samples, read, recorded) = match command {
         Some(command) => (

@@ -1,23 +1,48 @@
-//! The wire of the commands that call a service.
-ghost use Rattle.std.specs.Prelude.{◌≡◌, None, Some};
+//! The wire: that of the commands that call a service, and that of a service.
+ghost use Rattle.std.specs.Prelude.{◌≡◌, ℕ, None, Some};
 ghost use Rattle.edge_io.specs.declared.tcp_wire.Side.TheVariants.{Closed, Connecting};
 ghost use Rattle.edge_traits.specs.declared.datagram.Addr.{Addr};
-ghost use Rattle.w32tm.specs.Wire.{calls, target_by};
+ghost use Rattle.w32tm.specs.Wire.{IsListening, calls, rpc_port_by, target_by};
 
 use edge_io::{Addr, TcpWire};
 use std::net::Net;
 use std::time::Clock;
 use w32tm_text::{Action, Command};
 
-/// The wire, whose one session is with the service that the command calls.
-pub(crate) fn wire_of<R: Net + Clock + Drop>(rt: R, command: &Option<Command>) -> TcpWire<R>
+/// The port of remote calls, where the words name none.
+const CALLS_PORT: u16 = 49_152;
+
+/// The wire: its one session is with the service that the command calls, or its sessions come from the port of a service.
+pub(crate) fn wire_of<R: Net + Clock + Copy + Drop>(rt: R, command: &Option<Command>) -> TcpWire<R>
     ensures called { (to : Addr) → target_by command.now ≡ Some to → result.side ≡ Connecting to }
-    // The others connect to nothing.
-    ensures no_call { target_by command.now ≡ None → result.side ≡ Closed }
+    // A service connects to nothing. Where its port can't be had, each request for a session fails.
+    ensures served { (port : ℕ) → rpc_port_by command.now ≡ Some port → IsListening result.side }
+    // The others connect to nothing, and nobody to them.
+    ensures no_wire { target_by command.now ≡ None → rpc_port_by command.now ≡ None
+        → result.side ≡ Closed }
 {
+    if let Some(port) = rpc_port_by(command) {
+        return match TcpWire::listen(rt, port) {
+            Ok(wire) => wire,
+            Err(_) => TcpWire::without_socket(rt),
+        };
+    }
     match target_by(command) {
         Some(to) => TcpWire::connect(rt, to),
         None => TcpWire::without_socket(rt),
+    }
+}
+
+/// The local port of remote calls. None where there is no command, or one that isn't called.
+pub(crate) fn rpc_port_by(command: &Option<Command>) -> Option<u16>
+    ensures { result ≡ rpc_port_by command.now }
+{
+    match command {
+        Some(command) => match command.action {
+            Action::Service(_) => Some(command.rpc_port.unwrap_or(CALLS_PORT)),
+            _ => None,
+        },
+        None => None,
     }
 }
 
@@ -78,6 +103,53 @@ mod tests {
             let command = command_of(rt.alloc(), texts)?;
             assert_eq!(rt; target_by(&command), target, "{texts:?}");
         }
+        Ok(())
+    }
+
+    #[test]
+    fn ports_of_calls(rt: HostRuntime) -> Result<(), Fail> {
+        for (texts, port) in [
+            (
+                ["/service:1", "/config:a", "/keeper:b"].as_slice(),
+                Some(49152),
+            ),
+            (
+                &["/service:1", "/config:a", "/keeper:b", "/rpcport:8"],
+                Some(8),
+            ),
+            (
+                &["/service:1", "/config:a", "/keeper:b", "/port:8"],
+                Some(49152),
+            ),
+            (&["/member:1", "/config:a", "/keeper:b"], None),
+            (&["/resync"], None),
+            (&["/service:1"], None),
+        ] {
+            let command = command_of(rt.alloc(), texts)?;
+            assert_eq!(rt; rpc_port_by(&command), port, "{texts:?}");
+            assert_eq!(rt; target_by(&command).is_none(), texts[0] != "/resync");
+        }
+        Ok(())
+    }
+
+    // A service accepts on the port of its words. Where another has that, each request for a session fails.
+    #[test]
+    fn wire_accepts_on_the_port(rt: HostRuntime) -> Result<(), Fail> {
+        let alloc = rt.alloc();
+        let port = TcpWire::listen(&rt, 0)?.port()?;
+        let named = format!(in alloc; "/rpcport:{port}")?;
+        let texts = ["/service:1", "/config:a", "/keeper:b", named.as_str()];
+        let command = command_of(alloc, &texts)?;
+        let mut wire = wire_of(&rt, &command);
+        assert_eq!(rt; wire.port()?, port);
+        assert_eq!(rt; wire_of(&rt, &command).next_session(), Opened::Failed);
+        let to = Addr {
+            ip: 0x7F00_0001,
+            port,
+        };
+        let mut client = TcpWire::connect(&rt, to);
+        assert_eq!(rt; client.next_session(), Opened::Session);
+        assert_eq!(rt; wire.next_session(), Opened::Session);
         Ok(())
     }
 

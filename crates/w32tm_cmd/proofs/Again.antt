@@ -18,7 +18,7 @@ use Rattle.replay_run.specs.declared.end.ReplayEnd.{ReplayEnd}
 use Rattle.run_deeds.specs.Closing.{closing_by, closing_lines, link_line}
 use Rattle.run_deeds.specs.Deeds.{Ending, Whole, NoRecord, NoLine, IsWhole, cut_record, missing_in, reasons_by}
 use Rattle.run_deeds.specs.Devices.{LifeEndsBy, faults_of}
-use Rattle.run_deeds.specs.Lives.{Reports, Totals}
+use Rattle.run_deeds.specs.Lives.{Effects, Reports, Totals, Woven}
 use Rattle.run_deeds.specs.Weaving.{Need, Start, Stood, Turns, WordFor, ReceiptNow, ReadingFor, Act, Weaves, none, acts, life, reads, draws, gets, quiet, lost, arrives, call_reads, call_draws, round_gets, round_quiet, round_lost, round_arrives}
 use Rattle.run_deeds.specs.declared.life_end.LifeEnd.{LifeEnd}
 use Rattle.run_deeds.specs.declared.life_end.Why.{Why}
@@ -33,6 +33,8 @@ use Rattle.time_machine.specs.Machine.{moves_by, moves_of, posted_by, requests_o
 use Rattle.time_machine.specs.Report.{report_of, total_line}
 use Rattle.time_machine.specs.Told.{Told, has_sent, is_accepted}
 use Rattle.w32tm_cmd.specs.Again.{Records, ReplaysAgain, WritesSameLines}
+use Rattle.w32tm_cmd.specs.Config.{after_settings}
+use Rattle.w32tm_cmd.specs.Member.{LivesUntil}
 use Rattle.w32tm_cmd.specs.Replay.{IsReplayFaultless}
 use Rattle.edge_seen.specs.Seen.{Seen}
 use Rattle.w32tm_text.specs.declared.status.Status.{Status}
@@ -224,20 +226,30 @@ own_record before now old capture record_bytes told grew added =
     sym (same_more old capture record_bytes seen)
 
 -- a run that ended well did each deed whole
-was_whole : (turns : ℕ) (entry exit : DiskTold) (before now : Seen) (capture : List ℕ) (run : Records turns entry exit before now capture) → IsWhole run.lived.lives.woven.ending
-was_whole turns entry exit before now capture run =
-    let lived = run.lived in
+lived_whole : {turns : ℕ} {entry exit : DiskTold} {before now : Seen} (lived : LivesUntil turns entry exit before now why.Done) → IsWhole lived.lives.woven.ending
+lived_whole {before = before} {now = now} lived =
     let ends = subst (λ (w : Why). LifeEndsBy w lived.lives.woven.ending lived.lives.woven.need (faults_of before) (faults_of now)) lived.ended lived.lives.ended.ends in
     ends.0
 
--- what was recorded are the records of its events
+-- what a run whose deeds are whole recorded are the records of its events
+pub whole_capture : {conf : Conf} {next : Need} {stood : Stood} (w : Woven conf next stood) (before now : Seen) → Effects conf w before now → IsWhole w.ending → (old capture : List ℕ)
+    → before.capture ≡ Some old → now.capture ≡ Some (old ++ capture) → SpellsEvents w.events capture
+whole_capture w before now effects is old capture told grew =
+    let added = subst (λ (l : List ℕ). Added before.capture now.capture l) (ap (λ (l : List ℕ). effects.record_bytes ++ l) (whole_text w.ending is) ∙ append-nil effects.record_bytes) effects.capture in
+    let own = own_record before.capture now.capture old capture effects.record_bytes told grew added in
+    subst (λ (l : List ℕ). SpellsEvents w.events l) own effects.spells
+
+-- and so a run that ended well
+pub lived_capture : {turns : ℕ} {entry exit : DiskTold} {before now : Seen} (lived : LivesUntil turns entry exit before now why.Done) (old capture : List ℕ)
+    → before.capture ≡ Some old → now.capture ≡ Some (old ++ capture) → SpellsEvents lived.lives.woven.events capture
+lived_capture {before = before} {now = now} lived old capture told grew =
+    whole_capture lived.lives.woven (after_settings before now) now lived.lives.effects (lived_whole lived) old capture told grew
+
+was_whole : (turns : ℕ) (entry exit : DiskTold) (before now : Seen) (capture : List ℕ) (run : Records turns entry exit before now capture) → IsWhole run.lived.lives.woven.ending
+was_whole turns entry exit before now capture run = lived_whole run.lived
+
 own_capture : (turns : ℕ) (entry exit : DiskTold) (before now : Seen) (capture : List ℕ) (run : Records turns entry exit before now capture) → SpellsEvents run.lived.lives.woven.events capture
-own_capture turns entry exit before now capture run =
-    let lives = run.lived.lives in
-    let whole = whole_text lives.woven.ending (was_whole turns entry exit before now capture run) in
-    let added = subst (λ (l : List ℕ). Added before.capture now.capture l) (ap (λ (l : List ℕ). lives.effects.record_bytes ++ l) whole ∙ append-nil lives.effects.record_bytes) lives.effects.capture in
-    let own = own_record before.capture now.capture run.old capture lives.effects.record_bytes run.told run.grew added in
-    subst (λ (l : List ℕ). SpellsEvents lives.woven.events l) own lives.effects.spells
+own_capture turns entry exit before now capture run = lived_capture run.lived run.old capture run.told run.grew
 
 pub same_lines : (turns : ℕ) (entry exit : DiskTold) (before now later last : Seen) (capture : List ℕ) (run : Records turns entry exit before now capture)
     → ReplaysAgain run.lived.settings capture later last Done → WritesSameLines run.lived.end.quiet run.lived.end.lost before now later last

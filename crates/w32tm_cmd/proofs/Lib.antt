@@ -1,4 +1,5 @@
 mod Again
+mod AllRuns
 mod Asking
 mod Commands
 mod Configuring
@@ -7,6 +8,7 @@ mod Living
 mod Monitoring
 mod Replaying
 mod Requests
+mod Servicing
 mod Showing
 mod Signing
 mod Simulating

@@ -1,4 +1,5 @@
 pub mod Again
+pub mod AllRuns
 pub mod Ask
 pub mod Config
 pub mod Dc
@@ -7,6 +8,7 @@ pub mod Monitor
 pub mod Partners
 pub mod Replay
 pub mod Seen
+pub mod Service
 pub mod Show
 pub mod Sign
 pub mod Simulate

@@ -82,3 +82,20 @@ AskTouches old new Done = new ≡ record old { out = new.out; wire = new.wire }
 AskTouches old new (NotResynced result) = new ≡ record old { out = new.out; wire = new.wire }
 AskTouches old new WriteFault = new ≡ record old { out = new.out; wire = new.wire }
 AskTouches old new _ = new ≡ record old { wire = new.wire }
+
+-- all but the input may have changed
+abbrev pub TouchesServed : {S O L C D E W : Type 0} → Outside S O L C D E W → Outside S O L C D E W → Type 0
+TouchesServed old new = new ≡ record new { capture_in = old.capture_in }
+
+-- `/service` touches all but the input; the settings and the disk where that is of another version, and nothing but the
+-- settings where there are none or no partner is among them
+abbrev pub ServiceTouches : {S O L C D E W : Type 0} → Outside S O L C D E W → Outside S O L C D E W → Status → Type 0
+ServiceTouches old new Done = TouchesServed old new
+ServiceTouches old new ReadFault = TouchesServed old new
+ServiceTouches old new WriteFault = TouchesServed old new
+ServiceTouches old new DiskFault = TouchesServed old new
+ServiceTouches old new BadKeeper = new ≡ record old { config = new.config; disk = new.disk }
+ServiceTouches old new StampsSpent = TouchesServed old new
+ServiceTouches old new ClockFault = TouchesServed old new
+ServiceTouches old new EntropyFault = TouchesServed old new
+ServiceTouches old new _ = new ≡ record old { config = new.config }

@@ -11,7 +11,7 @@ pub struct Outside<S: Source, O: Sink, L: Link, C: Clock, D: Disk, E: Entropy, W
     pub capture_in: S,
     /// What is printed: for `/sign` the reply, else the lines of the command.
     pub out: O,
-    /// Where the events of `/member` and of `/simulate` are recorded.
+    /// Where the events of `/member`, `/service` and `/simulate` are recorded.
     pub capture_out: O,
     /// Where datagrams are sent and received.
     pub link: L,

@@ -3,23 +3,25 @@ ghost use Rattle.std.specs.Prelude.{◌≡◌, ◌↔◌, ℕ, Bool, List};
 ghost use Rattle.base_specs.specs.Counts.{Rose};
 ghost use Rattle.key_book.specs.declared.account.Account.{Account};
 ghost use Rattle.w32t_calls.specs.declared.call.Call.TheVariants.{Bits, Source};
-ghost use Rattle.w32tm_cmd.specs.Ask.{AskPromise, IsAsk, sync_call};
+ghost use Rattle.w32tm_cmd.specs.Ask.{AskPromise, sync_call};
 ghost use Rattle.w32tm_cmd.specs.Dc.{DcPromise};
 ghost use Rattle.w32tm_cmd.specs.Member.{MemberPromise};
 ghost use Rattle.w32tm_cmd.specs.Monitor.{MonitorPromise};
 ghost use Rattle.w32tm_cmd.specs.Replay.{ReplayPromise};
 ghost use Rattle.w32tm_cmd.specs.Seen.{FaultsHaveCauses, NeverFalls};
+ghost use Rattle.w32tm_cmd.specs.Service.{IsOverWire, ServicePromise};
 ghost use Rattle.w32tm_cmd.specs.Show.{ShowPromise};
 ghost use Rattle.w32tm_cmd.specs.Sign.{SignPromise};
 ghost use Rattle.w32tm_cmd.specs.Simulate.{SimulatePromise};
-ghost use Rattle.w32tm_cmd.specs.Touching.{AskTouches, DcTouches, MemberTouches, MonitorTouches, ReplayTouches, ShowTouches, SignTouches, SimulateTouches};
-ghost use Rattle.w32tm_text.specs.Words.{IsDc, IsMember, IsMonitor, IsQueryBits, IsQuerySource, IsReplay, IsResync, IsShow, IsSign, IsSimulate, SpellNothing, texts};
+ghost use Rattle.w32tm_cmd.specs.Touching.{AskTouches, DcTouches, MemberTouches, MonitorTouches, ReplayTouches, ServiceTouches, ShowTouches, SignTouches, SimulateTouches};
+ghost use Rattle.w32tm_text.specs.Words.{IsDc, IsMember, IsMonitor, IsQueryBits, IsQuerySource, IsReplay, IsResync, IsService, IsShow, IsSign, IsSimulate, SpellNothing, texts};
 
 use crate::ask::{ask_computer, sync_call};
 use crate::dc::serve_requests;
 use crate::member::keep_clock;
 use crate::monitor::ask_computers;
 use crate::replay::replay_capture;
+use crate::service::serve_calls;
 use crate::show::show_message;
 use crate::sign::sign_request;
 use crate::simulate::simulate_world;
@@ -43,6 +45,9 @@ use w32tm_text::{Action, read_words};
 /// sends what is due and takes what came. `/monitor` asks each computer for the time, and writes a line for each and a
 /// last one. `/replay` steps a member through the capture of `capture_in`, and writes its report. They take memory for
 /// the settings alone, `/member` and `/replay` for their partners too; where there is none no other device is touched.
+///
+/// `/service:SESSIONS` reads the settings as `/member` does, and then serves so many sessions of remote calls at most, one
+/// after the other. A call for a synchronization is one request of its member and the round of receipts behind it.
 ///
 /// `/resync`, `/query /source` and `/query /bits` ask the wire for one session, bind in it and make one call, and write to
 /// `out` the line of its answer. They take no memory.
@@ -110,6 +115,20 @@ pub fn w32tm<S: Source, O: Sink, L: Link, C: Clock, D: Disk, E: Entropy, W: Wire
         → ¬ Rose (seen outside.old).read_faults (seen outside.new).read_faults
         → outside.new ≡ record outside.old { config = outside.new.config } }
 
+    // The same of `/service`: each session is answered as its bytes ask, the events of its member are woven of its calls,
+    // and the wire is asked for so many sessions at most. A failed read of the settings leaves all else as it was.
+    ensures service { let seen = ⟦<Outside<S, O, L, C, D, E, W> as Tells>⟧.seen in
+        let disk = ⟦<Outside<S, O, L, C, D, E, W> as Tells>⟧.disk in
+        (sessions : ℕ) → IsService sessions (texts words.now.items)
+        → ServicePromise sessions (disk outside.old) (disk outside.new)
+        (seen outside.old) (seen outside.new) result }
+    ensures service_touches { (sessions : ℕ) → IsService sessions (texts words.now.items)
+        → ServiceTouches outside.old outside.new result }
+    ensures service_config_fault { let seen = ⟦<Outside<S, O, L, C, D, E, W> as Tells>⟧.seen in
+        (sessions : ℕ) → IsService sessions (texts words.now.items) → result ≡ Status.ReadFault
+        → ¬ Rose (seen outside.old).wire_faults (seen outside.new).wire_faults
+        → outside.new ≡ record outside.old { config = outside.new.config } }
+
     // What `/resync` asks of the wire and prints, for each answer; that the bytes of the session decide; and when it is
     // answered or refused.
     ensures resync { let seen = ⟦<Outside<S, O, L, C, D, E, W> as Tells>⟧.seen in
@@ -144,9 +163,9 @@ pub fn w32tm<S: Source, O: Sink, L: Link, C: Clock, D: Disk, E: Entropy, W: Wire
     ensures counts { let seen = ⟦<Outside<S, O, L, C, D, E, W> as Tells>⟧.seen in
         NeverFalls (seen outside.old) (seen outside.new) }
 
-    // Each fault has its cause. On `/resync` and `/query`, which the wire alone and the output concern, that is said above.
+    // Each fault has its cause. On `/service`, `/resync` and `/query`, whose faults may be the wire's, that is said above.
     ensures causes { let seen = ⟦<Outside<S, O, L, C, D, E, W> as Tells>⟧.seen in
-        (IsAsk (texts words.now.items) → ⊥)
+        (IsOverWire (texts words.now.items) → ⊥)
         → FaultsHaveCauses (seen outside.old) (seen outside.new) result }
 {
     match read_words(words) {
@@ -164,6 +183,7 @@ pub fn w32tm<S: Source, O: Sink, L: Link, C: Clock, D: Disk, E: Entropy, W: Wire
             Action::QuerySource => ask_computer(Call::Source, outside),
             Action::QueryBits => ask_computer(Call::Bits, outside),
             Action::Simulate(seed, operations) => simulate_world(alloc, seed, operations, outside),
+            Action::Service(sessions) => serve_calls(alloc, sessions, outside),
         },
     }
 }

@@ -2,7 +2,7 @@
 use Rattle.std.proofs.Common.{◌≡◌, ℕ, List, ◌++◌, cond, get_or, true, false, refl, sym, ap, ◌∙◌}
 use Rattle.std.specs.Prelude.{◌==◌}
 use Rattle.w32tm_text.specs.declared.options.OptionName.{OptionName}
-use Rattle.w32tm_text.specs.declared.options.OptionName.TheVariants.{Config, Keeper, Capture, Port, Clock, Computer, NoWait, Rediscover, Source, Bits}
+use Rattle.w32tm_text.specs.declared.options.OptionName.TheVariants.{Config, Keeper, Capture, Port, Clock, RpcPort, Computer, NoWait, Rediscover, Source, Bits}
 use Rattle.w32tm_text.specs.declared.options.Rule.TheVariants.{Required, Refused}
 use Rattle.w32tm_text.specs.declared.words.Action.{Action}
 use Rattle.w32tm_text.specs.declared.words.Action.TheVariants.{Resync, QuerySource, QueryBits}
@@ -16,7 +16,7 @@ option_of word =
     cond (get_or word 1 0 == 107) Keeper
     (cond (get_or word 1 0 == 112) Port
     (cond (get_or word 1 0 == 110) NoWait
-    (cond (get_or word 1 0 == 114) Rediscover
+    (cond (get_or word 1 0 == 114) (cond (get_or word 2 0 == 112) RpcPort Rediscover)
     (cond (get_or word 1 0 == 115) Source
     (cond (get_or word 1 0 == 98) Bits
     (cond (get_or word 2 0 == 97) Capture
@@ -29,6 +29,7 @@ of_name Keeper value = refl
 of_name Capture value = refl
 of_name Port value = refl
 of_name Clock value = refl
+of_name RpcPort value = refl
 of_name Computer value = refl
 of_name NoWait value = refl
 of_name Rediscover value = refl

@@ -9,7 +9,7 @@ use Rattle.std.proofs.lemmas.List.{append_cancel_left, length-map}
 use Rattle.std.proofs.lemmas.Option.{same_Some, slice_get-map, slice_get_read, slice_get_within}
 use Rattle.edge_traits.specs.declared.datagram.Addr.{Addr}
 use Rattle.w32tm_text.specs.declared.options.OptionName.{OptionName}
-use Rattle.w32tm_text.specs.declared.options.OptionName.TheVariants.{Config, Keeper, Capture, Port, Clock, Computer, NoWait, Rediscover, Source, Bits}
+use Rattle.w32tm_text.specs.declared.options.OptionName.TheVariants.{Config, Keeper, Capture, Port, Clock, RpcPort, Computer, NoWait, Rediscover, Source, Bits}
 use Rattle.w32tm_text.specs.declared.words.Action.{Action}
 use Rattle.w32tm_text.specs.declared.words.Command.{Command}
 use Rattle.w32tm_text.specs.Given.{AreOptions, IsFlag}
@@ -125,17 +125,18 @@ target_named words place text addr single gives spells = elim spells [
 ]
 
 -- the command of these parts
-pub command_is : (d : Command) (action : Action) (config keeper capture port clock : Option ℕ) (computer : Addr) → d.action ≡ action → Some config ≡ Some d.config
-    → Some keeper ≡ Some d.keeper → Some capture ≡ Some d.capture → Some port ≡ Some d.port → Some clock ≡ Some d.clock → Some computer ≡ Some d.computer
+pub command_is : (d : Command) (action : Action) (config keeper capture port clock rpc_port : Option ℕ) (computer : Addr) → d.action ≡ action → Some config ≡ Some d.config
+    → Some keeper ≡ Some d.keeper → Some capture ≡ Some d.capture → Some port ≡ Some d.port → Some clock ≡ Some d.clock → Some rpc_port ≡ Some d.rpc_port → Some computer ≡ Some d.computer
     → ◌≡◌ {A = Option Command}
-    (Some record { action = action; config = config; keeper = keeper; capture = capture; port = port; clock = clock; computer = computer }) (Some d)
-command_is d action config keeper capture port clock computer a b c e f g h =
+    (Some record { action = action; config = config; keeper = keeper; capture = capture; port = port; clock = clock; rpc_port = rpc_port; computer = computer }) (Some d)
+command_is d action config keeper capture port clock rpc_port computer a b c e f g r h =
     let same = sym a in
     let at_config = same_Some _ _ b in
     let at_keeper = same_Some _ _ c in
     let at_capture = same_Some _ _ e in
     let at_port = same_Some _ _ f in
     let at_clock = same_Some _ _ g in
+    let at_rpc_port = same_Some _ _ r in
     let at_computer = same_Some _ _ h in
     λ k. Some record {
       action = same k;
@@ -144,12 +145,13 @@ command_is d action config keeper capture port clock computer a b c e f g h =
       capture = at_capture k;
       port = at_port k;
       clock = at_clock k;
+      rpc_port = at_rpc_port k;
       computer = at_computer k;
     }
 
 -- all options
 abbrev pub names : List OptionName
-names = Config ∷ Keeper ∷ Capture ∷ Port ∷ Clock ∷ Computer ∷ NoWait ∷ Rediscover ∷ Source ∷ Bits ∷ []
+names = Config ∷ Keeper ∷ Capture ∷ Port ∷ Clock ∷ RpcPort ∷ Computer ∷ NoWait ∷ Rediscover ∷ Source ∷ Bits ∷ []
 
 -- what holds at all places holds of each option
 pub of_each : (P : OptionName → Type 0) → AllWithin P names 0 (length names) → (name : OptionName) → P name
@@ -158,11 +160,12 @@ of_each P all Keeper = all 1 Config (omega arith) (omega arith)
 of_each P all Capture = all 2 Config (omega arith) (omega arith)
 of_each P all Port = all 3 Config (omega arith) (omega arith)
 of_each P all Clock = all 4 Config (omega arith) (omega arith)
-of_each P all Computer = all 5 Config (omega arith) (omega arith)
-of_each P all NoWait = all 6 Config (omega arith) (omega arith)
-of_each P all Rediscover = all 7 Config (omega arith) (omega arith)
-of_each P all Source = all 8 Config (omega arith) (omega arith)
-of_each P all Bits = all 9 Config (omega arith) (omega arith)
+of_each P all RpcPort = all 5 Config (omega arith) (omega arith)
+of_each P all Computer = all 6 Config (omega arith) (omega arith)
+of_each P all NoWait = all 7 Config (omega arith) (omega arith)
+of_each P all Rediscover = all 8 Config (omega arith) (omega arith)
+of_each P all Source = all 9 Config (omega arith) (omega arith)
+of_each P all Bits = all 10 Config (omega arith) (omega arith)
 
 -- whether something holds of all options, by the answers for each
 pub all_decided : (P : OptionName → Type 0) (r : Bool)

@@ -12,7 +12,7 @@ use Rattle.key_book.specs.declared.account.Account.{Account}
 use Rattle.key_book.specs.AccountText.{SpellsKey}
 use Rattle.key_book.proofs.AccountLines.{account_is as same_account}
 use Rattle.w32tm_text.specs.declared.words.Action.{Action}
-use Rattle.w32tm_text.specs.declared.words.Action.TheVariants.{Sign, Show, Dc, Member, Monitor, Replay, Resync, QuerySource, QueryBits, Simulate}
+use Rattle.w32tm_text.specs.declared.words.Action.TheVariants.{Sign, Show, Dc, Member, Monitor, Replay, Resync, QuerySource, QueryBits, Simulate, Service}
 use Rattle.w32tm_text.specs.Words.{SpellsAccount, SpellsAction, SpellsDatagram, SpellsKeys, colon}
 
 -- the keys that a text with a colon spells, cut there
@@ -112,4 +112,7 @@ is_sign word text QueryBits begins spells =
     absurd (omega (arith, differ))
 is_sign word text (Simulate seed operations) begins spells =
     let differ : 103 ≡ 109 = ap (λ (l : List ℕ). get_or l 3 0) (sym begins ∙ spells.written) in
+    absurd (omega (arith, differ))
+is_sign word text (Service sessions) begins spells =
+    let differ : 105 ≡ 101 = ap (λ (l : List ℕ). get_or l 2 0) (sym begins ∙ spells.written) in
     absurd (omega (arith, differ))

@@ -5,11 +5,11 @@ use Rattle.std.specs.Prelude.{◌≡◌, ◌≢◌, ◌<◌, ◌≤◌, ◌⊎�
 use Rattle.edge_traits.specs.declared.datagram.Addr.{Addr}
 use Rattle.text_grammar.specs.Address.{SpellsAddress, SpellsPort, SpellsSocketAddress}
 use Rattle.w32tm_text.specs.declared.options.OptionName.{OptionName}
-use Rattle.w32tm_text.specs.declared.options.OptionName.TheVariants.{Config, Keeper, Capture, Port, Clock, Computer, NoWait, Rediscover, Source, Bits}
+use Rattle.w32tm_text.specs.declared.options.OptionName.TheVariants.{Config, Keeper, Capture, Port, Clock, RpcPort, Computer, NoWait, Rediscover, Source, Bits}
 use Rattle.w32tm_text.specs.declared.options.Rule.{Rule}
 use Rattle.w32tm_text.specs.declared.options.Rule.TheVariants.{Required, Allowed, Refused}
 use Rattle.w32tm_text.specs.declared.words.Action.{Action}
-use Rattle.w32tm_text.specs.declared.words.Action.TheVariants.{Dc, Member, Monitor, Replay, Resync, QuerySource, QueryBits, Simulate}
+use Rattle.w32tm_text.specs.declared.words.Action.TheVariants.{Dc, Member, Monitor, Replay, Resync, QuerySource, QueryBits, Simulate, Service}
 use Rattle.w32tm_text.specs.declared.words.Command.{Command}
 
 -- how the words that give an option begin
@@ -19,6 +19,7 @@ name_text Keeper = codes "/keeper:"
 name_text Capture = codes "/capture:"
 name_text Port = codes "/port:"
 name_text Clock = codes "/clock:"
+name_text RpcPort = codes "/rpcport:"
 name_text Computer = codes "/computer:"
 name_text NoWait = codes "/nowait"
 name_text Rediscover = codes "/rediscover"
@@ -56,6 +57,12 @@ rule_of QuerySource Computer = Allowed
 rule_of QueryBits Bits = Required
 rule_of QueryBits Computer = Allowed
 rule_of (Simulate seed operations) Capture = Allowed
+rule_of (Service sessions) Config = Required
+rule_of (Service sessions) Keeper = Required
+rule_of (Service sessions) Capture = Allowed
+rule_of (Service sessions) Port = Allowed
+rule_of (Service sessions) Clock = Allowed
+rule_of (Service sessions) RpcPort = Allowed
 rule_of _ _ = Refused
 
 -- the word gives the option: its name, and then this value, which is empty where the name is all
@@ -133,6 +140,7 @@ pub record SpellOptions (c : Command) (words : List (List ℕ)) : Type 0 where
   pub capture : SpellsPlace Capture words c.capture
   pub port : SpellsPortOption Port words c.port
   pub clock : SpellsPlace Clock words c.clock
+  pub rpc_port : SpellsPortOption RpcPort words c.rpc_port
   pub computer : SpellsTargetOption c.computer words
   pub all : (place : ℕ) (word : List ℕ) → 1 ≤ place → slice_get words place ≡ Some word → GivesOneOf c.action word
   pub once : (name : OptionName) → IsSingle name words

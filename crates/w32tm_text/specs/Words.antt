@@ -5,7 +5,7 @@ use Rattle.hex.specs.Hex.{decode_of}
 use Rattle.key_book.specs.declared.account.Account.{Account}
 use Rattle.key_book.specs.AccountText.{SpellsKey}
 use Rattle.w32tm_text.specs.declared.words.Action.{Action}
-use Rattle.w32tm_text.specs.declared.words.Action.TheVariants.{Sign, Show, Dc, Member, Monitor, Replay, Resync, QuerySource, QueryBits, Simulate}
+use Rattle.w32tm_text.specs.declared.words.Action.TheVariants.{Sign, Show, Dc, Member, Monitor, Replay, Resync, QuerySource, QueryBits, Simulate, Service}
 use Rattle.w32tm_text.specs.declared.words.Command.{Command}
 use Rattle.w32tm_text.specs.Options.{SpellOptions}
 
@@ -55,6 +55,12 @@ pub record SpellsTurns (name : List ℕ) (turns : ℕ) (word : List ℕ) : Type 
   pub most : turns ≤ 1000000
   pub written : word ≡ name ++ decimal turns
 
+-- `/service:` and the number of sessions, a decimal of 1 to 10,000
+pub record SpellsService (sessions : ℕ) (word : List ℕ) : Type 0 where
+  pub some : 1 ≤ sessions
+  pub most : sessions ≤ 10000
+  pub written : word ≡ codes "/service:" ++ decimal sessions
+
 -- `SEED:N`: a decimal of 32 bits, and a decimal of 1 to 100,000
 pub record SpellsScript (seed operations : ℕ) (text : List ℕ) : Type 0 where
   pub fits : seed < 2 ^ 32
@@ -80,6 +86,7 @@ SpellsAction (Resync wait rediscover) word = word ≡ codes "/resync"
 SpellsAction QuerySource word = word ≡ codes "/query"
 SpellsAction QueryBits word = word ≡ codes "/query"
 SpellsAction (Simulate seed operations) word = SpellsSimulate seed operations word
+SpellsAction (Service sessions) word = SpellsService sessions word
 
 -- the words are those of the command: the first says what is to be done, and the options stand behind it
 pub record SpellsCommand (c : Command) (words : List (List ℕ)) : Type 0 where
@@ -134,6 +141,10 @@ IsQueryBits words = IsCommand QueryBits words
 -- the words spell `/simulate` with this seed, for so many operations
 abbrev pub IsSimulate : ℕ → ℕ → List (List ℕ) → Type 0
 IsSimulate seed operations words = IsCommand (Simulate seed operations) words
+
+-- the words spell `/service` for so many sessions
+abbrev pub IsService : ℕ → List (List ℕ) → Type 0
+IsService sessions words = IsCommand (Service sessions) words
 
 -- the words spell no command
 abbrev pub SpellNothing : List (List ℕ) → Type 0

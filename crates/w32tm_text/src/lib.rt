@@ -35,8 +35,3 @@ pub use show::show_lines;
 pub use status::{Status, status_line};
 pub use w32t_settings::{Settings, SettingsFault, laws_of_settings, read_settings};
 pub use words::{Action, BadWords, Command, read_words};
-
-#[cfg(test)]
-mod conf_tests;
-#[cfg(test)]
-mod tests;

@@ -33,6 +33,8 @@ pub(crate) enum OptionName {
     Port,
     /// `/clock:`
     Clock,
+    /// `/rpcport:`
+    RpcPort,
     /// `/computer:`
     Computer,
     /// `/nowait`
@@ -46,12 +48,13 @@ pub(crate) enum OptionName {
 }
 
 /// All options.
-const OPTION_NAMES: [OptionName; 10] = [
+const OPTION_NAMES: [OptionName; 11] = [
     OptionName::Config,
     OptionName::Keeper,
     OptionName::Capture,
     OptionName::Port,
     OptionName::Clock,
+    OptionName::RpcPort,
     OptionName::Computer,
     OptionName::NoWait,
     OptionName::Rediscover,
@@ -73,6 +76,7 @@ impl OptionName {
             OptionName::Capture => b"/capture:",
             OptionName::Port => b"/port:",
             OptionName::Clock => b"/clock:",
+            OptionName::RpcPort => b"/rpcport:",
             OptionName::Computer => b"/computer:",
             OptionName::NoWait => b"/nowait",
             OptionName::Rediscover => b"/rediscover",
@@ -135,6 +139,7 @@ pub(crate) fn read_options(action: Action, words: &Vec<String>) -> Option<Comman
         capture: path_of(words, OptionName::Capture)?,
         port: port_of(words, OptionName::Port)?,
         clock: path_of(words, OptionName::Clock)?,
+        rpc_port: port_of(words, OptionName::RpcPort)?,
         computer: target_of(words)?,
     })
 }
@@ -228,6 +233,12 @@ impl Action {
             },
             Action::Simulate(_, _) => match name {
                 OptionName::Capture => Rule::Allowed,
+                _ => Rule::Refused,
+            },
+            Action::Service(_) => match name {
+                OptionName::Config | OptionName::Keeper => Rule::Required,
+                OptionName::Capture | OptionName::Port | OptionName::Clock | OptionName::RpcPort =>
+                    Rule::Allowed,
                 _ => Rule::Refused,
             },
         }

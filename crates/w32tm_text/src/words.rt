@@ -27,6 +27,9 @@ const QUERY: &[u8] = b"/query";
 /// The most turns of a run.
 const MOST_TURNS: u32 = 1_000_000;
 
+/// The most sessions of a service.
+const MOST_SESSIONS: u32 = 10_000;
+
 /// The most operations of a simulation.
 const MOST_OPERATIONS: u32 = 100_000;
 
@@ -55,6 +58,8 @@ pub enum Action {
     /// `/simulate:SEED:N`: run a member and a controller in a simulated world, by the script of this seed, for so many
     /// operations.
     Simulate(u32, u32),
+    /// `/service:SESSIONS`: keep the clock by the partners of the settings, and answer so many sessions of remote calls.
+    Service(u32),
 }
 
 /// What the words say.
@@ -73,6 +78,8 @@ pub struct Command {
     pub port: Option<u16>,
     /// The word in which the path of the clock's samples stands, behind `/clock:`.
     pub clock: Option<usize>,
+    /// The local port of a service's remote calls, 1 to 65,535, of `/rpcport:`.
+    pub rpc_port: Option<u16>,
     /// The service that `/resync` and `/query` call, of `/computer:`; 127.0.0.1:49152 where no word names one.
     pub computer: Addr,
 }
@@ -98,6 +105,8 @@ pub struct BadWords;
 /// - `/query`, which requires `/source` or `/bits`, not both, and allows `/computer:TARGET`.
 /// - `/simulate:SEED:N`, where SEED is a decimal of at most 4,294,967,295 and N one of 1 to 100,000, both without sign or
 ///   leading zero. It allows `/capture:PATH`.
+/// - `/service:SESSIONS`, where SESSIONS is a decimal of 1 to 10,000 without sign or leading zero. It requires
+///   `/config:PATH` and `/keeper:PATH`, and allows `/capture:PATH`, `/port:N`, `/clock:PATH` and `/rpcport:N`.
 ///
 /// The options stand behind it in any order, each at most once, and no others. A path is any text that isn't empty, and
 /// N a decimal of 1 to 65,535 without sign or leading zero. TARGET is `ADDRESS` or `ADDRESS:PORT`: four decimals of 0 to
@@ -139,6 +148,9 @@ fn read_action(word: &[u8], words: &Vec<String>) -> Option<Action>
     if let Some(script) = behind(word, b"/simulate:") {
         let (seed, operations) = read_script(script)?;
         return Some(Action::Simulate(seed, operations));
+    }
+    if let Some(sessions) = behind(word, b"/service:") {
+        return Some(Action::Service(read_count(sessions, MOST_SESSIONS)?));
     }
     if word == MONITOR {
         Some(Action::Monitor)

@@ -1,6 +1,6 @@
-use Rattle.std.proofs.Common.{◌≡◌, refl}
+use Rattle.std.proofs.Common.{◌≡◌, inr, refl}
 use Rattle.w32tm_text.specs.declared.words.Action.{Action}
-use Rattle.w32tm_text.specs.declared.words.Action.TheVariants.{Sign, Show, Dc, Member, Monitor, Replay, Resync, QuerySource, QueryBits, Simulate}
+use Rattle.w32tm_text.specs.declared.words.Action.TheVariants.{Sign, Show, Dc, Member, Monitor, Replay, Resync, QuerySource, QueryBits, Simulate, Service}
 use Rattle.w32tm_cmd.proofs.Commands.{is_read, same_action}
 use Rattle.w32tm_cmd.proofs.Showing as showing
 use Rattle.w32tm_cmd.proofs.Signing as signing
@@ -66,6 +66,12 @@ returns-in-Err-clause-simulate g c seed operations is_simulate = absurd (is_read
 pub returns-in-Err-clause-simulate_touches : goal.returns-in-Err-clause-simulate_touches
 returns-in-Err-clause-simulate_touches g c seed operations is_simulate = absurd (is_read (Simulate seed operations) _ _ is_simulate c.in-Err.ensures.found)
 
+pub returns-in-Err-clause-service : goal.returns-in-Err-clause-service
+returns-in-Err-clause-service g c sessions is_service = absurd (is_read (Service sessions) _ _ is_service c.in-Err.ensures.found)
+
+pub returns-in-Err-clause-service_touches : goal.returns-in-Err-clause-service_touches
+returns-in-Err-clause-service_touches g c sessions is_service = absurd (is_read (Service sessions) _ _ is_service c.in-Err.ensures.found)
+
 -- `/sign` was carried out for the account of the words
 pub returns-in-Sign-clause-sign : goal.returns-in-Sign-clause-sign
 returns-in-Sign-clause-sign g c account is_sign =
@@ -123,3 +129,15 @@ returns-in-Simulate-clause-simulate g c seed operations is_simulate =
     let seeds : c.in-Simulate.seed ≡ seed = cc (action, c.in-Simulate.is) in
     let counts : c.in-Simulate.operations ≡ operations = cc (action, c.in-Simulate.is) in
     simulating.promises seed operations _ _ c.simulate_world.result (rw (seeds, counts) at c.simulate_world.ensures.simulate)
+
+-- `/service` for the sessions of the words
+pub returns-in-Service-clause-service : goal.returns-in-Service-clause-service
+returns-in-Service-clause-service g c sessions is_service =
+    let action = same_action (Service sessions) _ c.in-Ok.command is_service c.in-Ok.ensures.found in
+    let same : c.in-Service.sessions ≡ sessions = cc (action, c.in-Service.is) in
+    rw same at c.serve_calls.ensures.service
+
+-- its causes are in its own clause
+pub returns-in-Service-clause-causes : goal.returns-in-Service-clause-causes
+returns-in-Service-clause-causes g c none =
+    absurd (none (inr (c.in-Service.sessions, record { command = c.in-Ok.command; is = c.in-Service.is; spelled = c.in-Ok.ensures.read })))

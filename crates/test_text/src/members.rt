@@ -1,5 +1,4 @@
 //! What a member is set to. The order of the partners and the limits were worked out by hand from the rules.
-use crate::{ConfFault, conf_of};
 use edge_traits::Addr;
 use key_book::Account;
 use ms_auth::Kind;
@@ -7,6 +6,7 @@ use std::alloc::Global;
 use std::test::Fail;
 use time_machine::Conf;
 use w32t_settings::read_settings;
+use w32tm_text::{ConfFault, conf_of};
 
 const KEY: [u8; 16] = [0, 1, 2, 3, 4, 5, 6, 7, 8, 9, 10, 11, 12, 13, 14, 15];
 

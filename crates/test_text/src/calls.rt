@@ -1,7 +1,7 @@
 //! The lines of the commands that call a service.
-use crate::{bits_line, resync_line, source_line};
 use partner_pick::NameText;
 use std::test::Fail;
+use w32tm_text::{bits_line, resync_line, source_line};
 
 // Results of a call, and the line of `/resync`.
 const RESULTS: [(u32, &str); 6] = [

@@ -1,8 +1,4 @@
 //! Words good and bad, the lines of messages and of `/dc`, and the codes and lines of statuses.
-mod calls;
-mod options;
-
-use crate::{Action, Status, dc_lines, read_words, show_lines, status_line};
 use dc_sign::{Refusal, ServeEnd, ServeWhy};
 use edge_traits::Datagram;
 use key_book::Account;
@@ -10,8 +6,10 @@ use line_text::LongLine;
 use ms_auth::read_packet;
 use std::alloc::{AllocError, Global};
 use std::test::Fail;
+use w32tm_text::{Action, Status, dc_lines, read_words, show_lines, status_line};
 
-fn words_of(alloc: Global, texts: &[&str]) -> Result<Vec<String>, AllocError> {
+/// The words of the command line.
+pub(crate) fn words_of(alloc: Global, texts: &[&str]) -> Result<Vec<String>, AllocError> {
     let mut words = Vec::new(alloc);
     for text in texts {
         words.push(String::from_str(alloc, text)?)?;
